@@ -22,8 +22,8 @@ use vm_state::heap::{Heap, Row};
 use vm_state::shared::Shared;
 use vm_state::value::Maker;
 
-/// So many instructions, and one for each class with a lower number, are done one by one before the first in a row: what
-/// a desk keeps goes by these numbers, and most initializers are short.
+/// So many instructions, and one for each class with a lower number, are done one by one before the first in a row:
+/// what a desk keeps goes by these numbers, and most initializers are short.
 const FEW: u64 = 10_000;
 
 /// The state, and the steps of the methods that ran often.

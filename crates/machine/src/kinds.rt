@@ -47,7 +47,8 @@ pub enum Stop {
     Waits,
     /// At build time: an object of another maker is looked into or changed.
     ForeignObject,
-    /// At build time: what no class does that may be initialized then. Outside a lock: any access but to ask for a class.
+    /// At build time: what no class does that may be initialized then. Outside a lock: any access but to ask for a
+    /// class.
     Barred,
     /// At build time: the elements that it makes cost more than is left.
     OverBudget,

@@ -246,7 +246,7 @@ fn classes_of(
     linked_classes(alloc, &linker, strings)
 }
 
-/// The same with what references are resolved with.
+/// Classes linked, with what references are resolved with.
 fn linked_classes(
     alloc: Global,
     linker: &Linker<'_>,
@@ -261,7 +261,7 @@ fn linked_classes(
     }
 }
 
-/// The same with what members are resolved by.
+/// Classes linked, with what members are resolved by.
 fn classes_with(
     alloc: Global,
     linker: &Linker<'_>,

@@ -109,6 +109,6 @@ pub enum RuntimeConstant {
     Field(FieldKind, Result<FieldTarget, Unresolved>),
     /// A method reference.
     Method(MethodReference),
-    /// The same of a method of an interface.
+    /// A reference to a method of an interface.
     InterfaceMethod(MethodReference),
 }

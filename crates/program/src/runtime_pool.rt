@@ -113,7 +113,7 @@ impl Resolver<'_> {
         }
     }
 
-    /// The same of what a reference resolves to.
+    /// What a field is that a reference resolves to, with its slot.
     fn targeted(&self, field: Result<Field, Unresolved>) -> Result<FieldTarget, Unresolved>
         ensures { result ≡ targeted self.now.hierarchy.now.family field }
     {
@@ -218,7 +218,7 @@ impl Resolver<'_> {
         }
     }
 
-    /// The same of an entry that is no reference to a member either.
+    /// A constant that is no reference to a member.
     fn plain(&self, index: u16, constant: &Constant) -> RuntimeConstant
         ensures { IsPlain self.now.hierarchy.now.family self.now.file.now index constant.now result }
     {

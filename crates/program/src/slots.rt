@@ -79,7 +79,7 @@ impl Slots {
         chain_at(&self.chains, class)
     }
 
-    /// The same of the given superclass of a class.
+    /// The chain of slots of the given superclass of a class.
     pub(crate) fn above(&self, family: &Family, class: u32) -> SlotChain
         requires { AreSlots family.now self.now }
         ensures { IsChain family.now (slots_above family.now class) result }

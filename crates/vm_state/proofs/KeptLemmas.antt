@@ -7,7 +7,7 @@ use Rattle.std.specs.Prelude.{IsSome, option_map}
 use Rattle.std.specs.List.{range_with_len}
 use Rattle.std.specs.List.Sorted.{IsNonDecreasingBy}
 use Rattle.std.proofs.lemmas.List.{length_push, append-nil}
-use Rattle.std.proofs.lemmas.Option.{get_or_from_slice_get, slice_get-get_or, slice_get_within}
+use Rattle.std.proofs.lemmas.Option.{get_or_from_slice_get, slice_get-get_or, slice_get_past, slice_get_within}
 use Rattle.vm_state.specs.declared.object.Object.{Object}
 use Rattle.vm_state.specs.declared.object.Monitor.{Monitor}
 use Rattle.vm_state.specs.declared.object.Monitor.TheVariants.{Free}
@@ -564,3 +564,14 @@ direct_none w later ks count n none fits up past =
     omega (arith, is, before))
     (λ d inside. absurd (omega (arith, inside, all, past)))
     (λ m is. absurd (omega (arith, slice_get_within (numbers_in later ks) n m is, all, past)))
+
+-- where no number is left out, what stands at a number's place is what is held of it, or nothing
+pub direct_kept : (w : List (ℕ × Monitor)) (later : List ℕ) (ks : List Kept) (count n : ℕ) → length later ≡ 0 →
+    length later ≤ length ks → AscendsFrom 0 (objects_of w (numbers_in later ks) ks) count →
+    slice_get ks n ≡ option_map kept_of (object_in (objects_of w (numbers_in later ks) ks) n)
+direct_kept w later ks count n none fits up = elim (below_or_not n (length ks)) [
+  | inl inside ↦
+      found_kept w (numbers_in later ks) ks count n n up (direct_there w later ks n none fits inside)
+  | inr past ↦
+      slice_get_past ks n past ∙ ap (option_map kept_of) (sym (direct_none w later ks count n none fits up past))
+]

@@ -364,7 +364,10 @@ impl Row {
     fn kept(&self, number: u64) -> Option<&Kept>
         ensures { option_copied result ≡ option_map kept_of (object_in self.now.objects number) }
     {
-        match self.place(number) {
+        if self.later.is_empty() {
+            return kept_at(self.kept.as_slice(), number as usize);
+        }
+        match self.searched_place(number) {
             Some(place) => kept_at(self.kept.as_slice(), place),
             None => None,
         }

@@ -1,9 +1,11 @@
 //! Objects: instances and arrays (JVMS 2.7).
 
 ghost use Rattle.std.specs.Prelude.{◌≡◌, [], ◌∷◌, ◌++◌, true, IfOk, IfSome, OnOk, OnErr, Some, length, replicate};
-ghost use Rattle.std.specs.Prelude.{slice_get, slice_set};
+ghost use Rattle.std.specs.Prelude.{map, slice_get, slice_set};
 ghost use Rattle.std.specs.List.{All};
 ghost use Rattle.vm_state.specs.Values.{IsNumber};
+ghost use Rattle.vm_state.specs.declared.value.Value.TheVariants.{Int, Long};
+ghost use Rattle.vm_state.specs.steps.Elements.{char_value};
 
 use crate::elements::Elements;
 use crate::packing::Packing;
@@ -105,13 +107,54 @@ impl Slots {
         self.elements.get(slot)
     }
 
-    /// How many there are, and the value in a slot. None where they are held otherwise, or there is no such slot.
+    /// How many there are, and the value in a slot. None where they are not held in 8 bytes each, or there is no such
+    /// slot.
     #[inline(always)]
-    pub fn get_as(&self, packing: Packing, slot: usize) -> Option<(usize, Value)>
+    pub fn brief_at(&self, slot: usize) -> Option<(usize, Value)>
         ensures count { IfSome result (λ r. r.0 ≡ length self.now) }
         ensures value { IfSome result (λ r. slice_get self.now slot ≡ Some r.1) }
     {
-        self.elements.get_as(packing, slot)
+        self.elements.brief_at(slot)
+    }
+
+    /// All of them, where they are held as bytes: those of an array of bytes or of booleans.
+    #[inline(always)]
+    pub fn as_bytes(&self) -> Option<&[i8]>
+        ensures { IfSome result (λ s. map Int s.now ≡ self.now) }
+    {
+        self.elements.as_bytes()
+    }
+
+    /// All of them, where they are held as chars.
+    #[inline(always)]
+    pub fn as_chars(&self) -> Option<&[u16]>
+        ensures { IfSome result (λ s. map char_value s.now ≡ self.now) }
+    {
+        self.elements.as_chars()
+    }
+
+    /// All of them, where they are held as shorts.
+    #[inline(always)]
+    pub fn as_shorts(&self) -> Option<&[i16]>
+        ensures { IfSome result (λ s. map Int s.now ≡ self.now) }
+    {
+        self.elements.as_shorts()
+    }
+
+    /// All of them, where they are held as ints.
+    #[inline(always)]
+    pub fn as_ints(&self) -> Option<&[i32]>
+        ensures { IfSome result (λ s. map Int s.now ≡ self.now) }
+    {
+        self.elements.as_ints()
+    }
+
+    /// All of them, where they are held as longs.
+    #[inline(always)]
+    pub fn as_longs(&self) -> Option<&[i64]>
+        ensures { IfSome result (λ s. map Long s.now ≡ self.now) }
+    {
+        self.elements.as_longs()
     }
 
     /// Whether they are held as numbers; then all are.

@@ -1,9 +1,10 @@
 //! Values in a row by how they are held, for who knows how that mostly is: a compare in the place of a table of jumps.
 
 ghost use Rattle.std.specs.Prelude.{◌≡◌, true, false, map, length, slice_get, slice_set, IfSome, OnOk, OnErr, Some};
-ghost use Rattle.vm_state.specs.steps.Elements.{values_of, brief_value};
+ghost use Rattle.vm_state.specs.declared.value.Value.TheVariants.{Int, Long};
+ghost use Rattle.vm_state.specs.steps.Elements.{values_of, brief_value, char_value};
 
-use crate::elements::{Brief, Element, Elements, put_few, put_narrow, value_at};
+use crate::elements::{Brief, Elements, put_few, put_narrow, value_at};
 use crate::value::Value;
 use std::alloc::AllocError;
 
@@ -19,14 +20,14 @@ pub enum Packing {
     Longs,
 }
 
-/// How many elements there are, and the value at a slot.
+/// How many there are of what is held in 8 bytes each, and the value at a slot.
 #[inline(always)]
-fn counted_at<E: Element>(elements: &[E], slot: usize) -> Option<(usize, Value)>
-    ensures count { IfSome result (λ r. r.0 ≡ length (map E.value_of elements.now)) }
-    ensures value { IfSome result (λ r. slice_get (map E.value_of elements.now) slot ≡ Some r.1) }
+fn counted_at(briefs: &[Brief], slot: usize) -> Option<(usize, Value)>
+    ensures count { IfSome result (λ r. r.0 ≡ length (map brief_value briefs.now)) }
+    ensures value { IfSome result (λ r. slice_get (map brief_value briefs.now) slot ≡ Some r.1) }
 {
-    match value_at(elements, slot) {
-        Some(value) => Some((elements.len(), value)),
+    match value_at(briefs, slot) {
+        Some(value) => Some((briefs.len(), value)),
         None => None,
     }
 }
@@ -47,7 +48,7 @@ impl Elements {
     /// How many there are, and the value at a slot. None where they are not held in 8 bytes each, or there is no such
     /// slot.
     #[inline(always)]
-    fn get_brief(&self, slot: usize) -> Option<(usize, Value)>
+    pub(crate) fn brief_at(&self, slot: usize) -> Option<(usize, Value)>
         ensures count { IfSome result (λ r. r.0 ≡ length (values_of self.now)) }
         ensures value { IfSome result (λ r. slice_get (values_of self.now) slot ≡ Some r.1) }
     {
@@ -71,19 +72,57 @@ impl Elements {
         }
     }
 
-    /// How many there are, and the value at a slot. None where they are held otherwise, or there is no such slot.
+    /// All of them, where they are held as bytes or booleans.
     #[inline(always)]
-    pub(crate) fn get_as(&self, packing: Packing, slot: usize) -> Option<(usize, Value)>
-        ensures count { IfSome result (λ r. r.0 ≡ length (values_of self.now)) }
-        ensures value { IfSome result (λ r. slice_get (values_of self.now) slot ≡ Some r.1) }
+    pub(crate) fn as_bytes(&self) -> Option<&[i8]>
+        ensures { IfSome result (λ s. map Int s.now ≡ values_of self.now) }
     {
-        match (packing, self) {
-            (Packing::Briefs, held) => held.get_brief(slot),
-            (Packing::Bytes, Elements::Bytes(bytes)) => counted_at(bytes.as_slice(), slot),
-            (Packing::Chars, Elements::Chars(chars)) => counted_at(chars.as_slice(), slot),
-            (Packing::Shorts, Elements::Shorts(shorts)) => counted_at(shorts.as_slice(), slot),
-            (Packing::Ints, Elements::Ints(ints)) => counted_at(ints.as_slice(), slot),
-            (Packing::Longs, Elements::Longs(longs)) => counted_at(longs.as_slice(), slot),
+        match self {
+            Elements::Bytes(bytes) => Some(bytes.as_slice()),
+            _ => None,
+        }
+    }
+
+    /// All of them, where they are held as chars.
+    #[inline(always)]
+    pub(crate) fn as_chars(&self) -> Option<&[u16]>
+        ensures { IfSome result (λ s. map char_value s.now ≡ values_of self.now) }
+    {
+        match self {
+            Elements::Chars(chars) => Some(chars.as_slice()),
+            _ => None,
+        }
+    }
+
+    /// All of them, where they are held as shorts.
+    #[inline(always)]
+    pub(crate) fn as_shorts(&self) -> Option<&[i16]>
+        ensures { IfSome result (λ s. map Int s.now ≡ values_of self.now) }
+    {
+        match self {
+            Elements::Shorts(shorts) => Some(shorts.as_slice()),
+            _ => None,
+        }
+    }
+
+    /// All of them, where they are held as ints.
+    #[inline(always)]
+    pub(crate) fn as_ints(&self) -> Option<&[i32]>
+        ensures { IfSome result (λ s. map Int s.now ≡ values_of self.now) }
+    {
+        match self {
+            Elements::Ints(ints) => Some(ints.as_slice()),
+            _ => None,
+        }
+    }
+
+    /// All of them, where they are held as longs.
+    #[inline(always)]
+    pub(crate) fn as_longs(&self) -> Option<&[i64]>
+        ensures { IfSome result (λ s. map Long s.now ≡ values_of self.now) }
+    {
+        match self {
+            Elements::Longs(longs) => Some(longs.as_slice()),
             _ => None,
         }
     }
