@@ -25,14 +25,14 @@ use std::thread::Threads;
 use wave_scheduler::outcome::{Settled, WaveFault};
 use wave_scheduler::{Gate, can_work};
 
-/// What is asked of a build.
+/// The options of a build.
 #[derive(Drop)]
 pub struct BuildOptions<'a> {
     /// The classes that are to be initialized at run time, as a list of patterns.
     pub run_time: Option<&'a str>,
     /// The classes that are to be initialized at build time, as a list of patterns.
     pub build_time: Option<&'a str>,
-    /// What the initializer of each class may cost: 1 to 1,000,000,000.
+    /// The most that the initializer of each class may cost: 1 to 1,000,000,000.
     pub budget: u64,
 }
 

@@ -30,7 +30,7 @@ pub struct ImageRun {
 }
 
 /// Runs an image by turns, from its bytes: each entry's `main` in a thread of its own, the image's classes initialized
-/// from the start and each other class when a thread first needs it, for at most so many steps.
+/// from the start and each other class when a thread first needs it, for at most `limit` steps.
 ///
 /// # Errors
 /// The first that holds of `Entry` of `Count` (there is no entry or more than 64), `Image` (the bytes are no image) and

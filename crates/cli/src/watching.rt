@@ -16,7 +16,7 @@ use std::sync::Wait;
 use std::thread::Threads;
 use wave_scheduler::Gate;
 
-/// What a build does.
+/// A stage of a build.
 #[derive(Clone, Copy, Debug)]
 pub enum Stage {
     /// Class files are read.
@@ -43,7 +43,7 @@ pub trait Watch {
     /// A class was initialized, or refused.
     fn done(&self);
 
-    /// What the build is at, in words that follow 'while'. None where that is not known, or memory is refused for it.
+    /// The work of the build now, in words that follow 'while'. None where it is not known or memory is refused for it.
     fn work(&self, alloc: Global) -> Option<String>;
 }
 

@@ -53,8 +53,8 @@ impl Desk {
         }
     }
 
-    /// Runs frames of an initializer that has done so many instructions, as long as they touch no class but its own and
-    /// make no array, and there were fewer than so many. It answers how many there were.
+    /// Runs frames of an initializer that has done `done` instructions, as long as they touch no class but its own and
+    /// make no array, and there were fewer than `most`. It answers how many there were.
     ///
     /// # Errors
     /// `AllocError` where memory is refused. The frames and the region are of no use then.

@@ -1,4 +1,4 @@
-//! What becomes of a class's initializer at build time.
+//! How a class's initializer ends at build time.
 
 use crate::regions::Region;
 
@@ -15,12 +15,12 @@ pub enum Refusal {
     Faulted,
 }
 
-/// What stops an initializer.
+/// Why an initializer is stopped.
 #[derive(Clone, Copy)]
 pub enum Halt {
     /// It is refused for this reason.
     Refused(Refusal),
-    /// What bars its class by the code alone.
+    /// Its code alone bars its class.
     Barred,
 }
 
@@ -33,7 +33,7 @@ pub enum Ending {
     Stopped(Halt),
 }
 
-/// What becomes of a class whose code bars nothing.
+/// How the initializer of a class ended whose code does not bar it.
 #[derive(Drop)]
 pub enum Outcome {
     /// Its initializer left this region.

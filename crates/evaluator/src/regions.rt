@@ -1,4 +1,4 @@
-//! What belongs to classes that are settled.
+//! Regions of settled classes.
 
 ghost use Rattle.std.specs.Prelude.{◌≡◌, [], ◌<◌, ◌^◌, length, Some, None, replicate, slice_set, option_copied, IfOk};
 ghost use Rattle.std.specs.Prelude.{OnErr, OnOk};
@@ -9,7 +9,7 @@ use std::marker::Model;
 use vm_state::classes::Fields;
 use vm_state::heap::Row;
 
-/// What belongs to one class: its static fields, and the objects that its class initialization method made.
+/// The region of one class: its static fields, and the objects that its class initialization method made.
 #[derive(Drop)]
 pub struct Region {
     pub fields: Fields,
@@ -52,7 +52,7 @@ impl Regions {
         }
     }
 
-    /// A place for the region of each of so many classes.
+    /// A place for the region of each of `count` classes.
     ///
     /// # Errors
     /// `AllocError` where memory is refused.
@@ -122,7 +122,7 @@ impl Regions {
     }
 }
 
-/// Adds so many places, where there are none yet.
+/// Adds `count` places, where there are none yet.
 fn add_places(count: usize, regions: &mut Vec<Option<Region>>) -> Result<(), AllocError>
     requires { regions.old.items ≡ [] }
     ensures { OnOk result (regions.new.items ≡ replicate count None) }

@@ -36,7 +36,7 @@ pub enum Turn {
     Stopped(Halt),
 }
 
-/// The next instruction of a frame, which may make so many elements. The store is set up for it first, since what an
+/// The next instruction of a frame, which may make `most` elements. The store is set up for it first, since what an
 /// instruction promises of a store is what definitions see alone.
 #[tactic(auto, unfolding(machine::specs::Accesses::unless_refused))]
 fn perform<'a>(
@@ -68,11 +68,11 @@ fn perform<'a>(
     execute(alloc, &mut spares, program, by, frame, store)
 }
 
-/// A call: the frame of the method called stands on its caller, which loses so many operands.
+/// A call: the frame of the method called stands on its caller, which loses the arguments.
 fn call(segment: &mut Segment, callee: Frame, arguments: usize) -> Result<Turn, AllocError>
     ensures { IfOk result (λ turn. Concludes (Conclusion.Calls callee arguments) segment.old turn segment.new) }
 {
-    segment.innermost.operands.drop_many(arguments);
+    segment.innermost.cells.drop_many(arguments);
     segment.call(callee)?;
     Ok(Turn::On)
 }
@@ -129,7 +129,7 @@ fn halted(stop: Stop) -> Result<Halt, AllocError>
     }
 }
 
-/// The next instruction of an initializer, which may make so many elements.
+/// The next instruction of an initializer, which may make `most` elements.
 ///
 /// # Errors
 /// `AllocError` where memory is refused.

@@ -22,8 +22,8 @@ fn made_count(image: &Image, class: u32) -> u64
     }
 }
 
-/// What the initializer of an accepted class costs, how many objects it made and how many of these are kept, and how
-/// many bytes they take in the image with the static fields.
+/// The cost of an accepted class's initializer, how many objects it made and how many of these are kept, and how many
+/// bytes they take in the image with the static fields.
 fn cost_line(alloc: Global, image: &Image, budget: u64, class: u32) -> Result<String, AllocError>
     ensures { IfOk result (λ text. IsCostLine image.now budget class (string_bytes text)) }
 {

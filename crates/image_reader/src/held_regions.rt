@@ -119,7 +119,7 @@ fn push_objects(
     Ok(())
 }
 
-/// The objects that are held, of so many that were made.
+/// The objects that are held, of `count` that were made.
 fn held_objects(
     alloc: Global,
     program: &mut Program,

@@ -104,7 +104,7 @@ pub(crate) fn held_slots(
     }
 }
 
-/// Static fields with these values. No class has so many that 32 bits do not count them.
+/// Static fields with these values. 32 bits count those of any class.
 fn fields_of(alloc: Global, values: &[Value]) -> Result<Fields, AllocError>
     ensures { IfOk result (λ fields. field_in fields ≡ field_in values.now) }
 {

@@ -1,4 +1,4 @@
-//! What holds between reading and writing.
+//! Laws of reading and writing.
 
 ghost use Rattle.std.specs.Prelude.{◌≡◌, List, ℕ, Option};
 ghost use Rattle.program.specs.Programs.{IsProgram};
@@ -11,7 +11,7 @@ ghost use Rattle.image_format.specs.declared.version.Version.TheVariants.{One};
 ghost use Rattle.image_format.specs.Images.{ImageText, OldText, VersionText};
 ghost use Rattle.image_writer.specs.ImageTexts.{text_of, told_of};
 
-/// What is written of an image that was read are the bytes that were read.
+/// An image that was read is written as the bytes that were read.
 pub fn written_as_read()
     ensures { (bytes : List ℕ) (I : ImageTables) → ImageText bytes I.program.family (told_of I) → text_of I ≡ bytes }
 {}

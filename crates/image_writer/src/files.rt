@@ -1,4 +1,4 @@
-//! What holds of each linked program, since its classes' files were read.
+//! Each linked program has the tables of its class files.
 
 ghost use Rattle.image_writer.specs.steps.Sizes.{HasFiles};
 

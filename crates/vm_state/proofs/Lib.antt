@@ -8,6 +8,7 @@ pub mod ObjectLemmas
 pub mod SlotLemmas
 pub mod HeldCountLemmas
 pub mod VariableLemmas
+pub mod CellLemmas
 pub mod OutputLemmas
 pub mod ElementLemmas
 pub mod OwnerLemmas

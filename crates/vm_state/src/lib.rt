@@ -2,6 +2,7 @@
 //! frames, initializations, and what all threads share.
 #![tactic(auto)]
 
+pub mod cells;
 pub mod classes;
 mod elements;
 pub mod ends;
@@ -10,9 +11,7 @@ pub mod heap;
 pub mod initialization;
 mod items;
 pub mod kept;
-pub mod locals;
 pub mod object;
-pub mod operands;
 pub mod output;
 mod owners;
 pub mod packing;
@@ -20,3 +19,4 @@ pub mod shared;
 pub mod spares;
 pub mod text;
 pub mod value;
+pub mod variable;

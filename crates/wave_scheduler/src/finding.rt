@@ -1,4 +1,4 @@
-//! What becomes of one class in its wave.
+//! The outcome of one class in its wave.
 
 ghost use Rattle.std.specs.Prelude.{◌≡◌, ◌<◌, ◌⊎◌, length, slice_set, option_map, None, IfOk, OnOk};
 ghost use Rattle.machine.specs.Linked.{program_of};
@@ -19,7 +19,7 @@ use evaluator::settling::settle;
 use initializer_analysis::verdict::{Reason, Verdict};
 use std::alloc::{AllocError, Global};
 
-/// What was found of a class.
+/// The verdict on a class, with its region.
 #[derive(Drop)]
 struct Found {
     verdict: Verdict,
@@ -39,7 +39,7 @@ fn reason_of(refusal: Refusal) -> Reason
     }
 }
 
-/// What was found of a class of this outcome, in a wave.
+/// The verdict on a class of this outcome in a wave, with its region.
 fn found_of(outcome: Outcome, wave: usize) -> Found
     ensures { IsFoundOf wave outcome (outcome_of result.verdict) (option_map region_of result.region) }
 {
@@ -55,7 +55,7 @@ fn found_of(outcome: Outcome, wave: usize) -> Found
     }
 }
 
-/// What came of a class, or else what its initializer does if it is run now.
+/// The outcome of a class, or else that of its initializer if it is run now.
 fn outcome_now<W: Lent, G: Gate>(
     alloc: Global,
     wave: Wave<'_>,

@@ -1,4 +1,4 @@
-//! What holds of settled classes.
+//! Laws of settled classes.
 
 ghost use Rattle.wave_scheduler.specs.Laws.{OneSettled, HasSettled, SettledAreExact, HasAnalysis, SettledShowTheSame};
 ghost use Rattle.wave_scheduler.specs.Laws.{NeverBarred, MoreAtHand};

@@ -1,4 +1,4 @@
-//! What becomes of classes in the end.
+//! The outcomes of classes in the end.
 
 use evaluator::regions::Regions;
 use initializer_analysis::verdict::Verdicts;

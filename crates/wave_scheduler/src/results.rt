@@ -1,4 +1,4 @@
-//! What came of a wave's classes, moved back by the workers that ran them.
+//! The results of a wave's classes, moved back by the workers that ran them.
 
 ghost use Rattle.std.specs.Prelude.{◌≡◌, IfSome};
 ghost use Rattle.machine.specs.Linked.{program_of};
@@ -10,7 +10,7 @@ use evaluator::outcome::Outcome;
 use std::alloc::{AllocError, Global};
 use std::marker::{Model, PhantomData};
 
-/// What became of a class with what its wave was lent. Contracts see the class and its outcome.
+/// The outcome of a class, with what its wave was lent. Contracts see the class and its outcome.
 #[derive(Drop)]
 pub(crate) struct Done<W: Lent> {
     /// Where the class stands in the row of its wave.
@@ -47,7 +47,7 @@ impl<W: Lent> Done<W> {
         }
     }
 
-    /// What became of a class, if it is of this one.
+    /// The outcome, if it is that of this class.
     pub(crate) fn outcome_of(self, class: u32) -> Option<Outcome>
         ensures { IfSome result (λ outcome. IsOutcome (program_of W.program) (environment_of W.regions) class W.budget
             outcome) }
@@ -60,7 +60,7 @@ impl<W: Lent> Done<W> {
     }
 }
 
-/// What was moved back, at the places of the row of a wave.
+/// The results that were moved back, at the places of the row of a wave.
 #[derive(Drop)]
 pub(crate) struct Results<W: Lent> {
     slots: Vec<Option<Done<W>>>,

@@ -1,15 +1,15 @@
-//! What the classes of a wave are settled with.
+//! The terms on which the classes of a wave are settled.
 
 use initializer_analysis::verdict::Verdict;
 use program::Program;
 
-/// What the classes of all waves are settled with.
+/// The terms on which the classes of all waves are settled.
 #[derive(Clone, Copy)]
 pub(crate) struct Terms<'a> {
     pub program: &'a Program,
     /// The verdicts on all classes, before any initializer runs.
     pub verdicts: &'a [Verdict],
-    /// What the initializer of each class may cost.
+    /// The most that the initializer of each class may cost.
     pub budget: u64,
 }
 
