@@ -53,9 +53,6 @@ at_or (x ∷ xs) (suc i) other low = at_or xs i other (omega (arith, low))
 
 -- ---- roots
 
-pub roots_none : (verdicts : List Verdict) → AreRoots verdicts []
-roots_none verdicts c e at = absurd cc
-
 pub roots_push : (verdicts : List Verdict) (roots : List ℕ) (root : ℕ) → AreRoots verdicts roots
     → Leads verdicts (length roots) root → AreRoots verdicts (roots ++ root ∷ [])
 roots_push verdicts roots root are leads c e at = elim (get_push roots root c e at) [
