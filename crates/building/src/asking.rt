@@ -84,7 +84,7 @@ fn ask_judged(
     }
 }
 
-/// What options ask for, where it is known which classes are forced to run time.
+/// What is asked for, where it is known which classes are forced to run time.
 fn ask_forced(
     alloc: Global,
     program: &Program,
@@ -101,7 +101,7 @@ fn ask_forced(
     }
 }
 
-/// What the patterns of both lists ask for.
+/// What is asked for by the patterns of both lists.
 fn ask_by(alloc: Global, program: &Program, lists: &Lists) -> Result<Asked, BuildFault>
     ensures asked { IfOk result (AsksBy program.now lists.now.run_time lists.now.build_time) }
     ensures fault { IfErr result (λ fault. (fault ≡ Memory)

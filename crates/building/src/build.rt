@@ -1,7 +1,7 @@
 //! From a program to an image: the classes that may be are initialized.
 
 ghost use Rattle.std.specs.Prelude.{◌≡◌, ◌≢◌, ◌↔◌, ◌⊎◌, ℕ, ◌<◌, ◌^◌, Err, IfErr, IfOk};
-ghost use Rattle.evaluator.specs.Regions.{environment_of};
+ghost use Rattle.region_shape.specs.Regions.{environment_of};
 ghost use Rattle.region_shape.specs.Wholes.{AreWhole};
 ghost use Rattle.wave_scheduler.specs.Outcomes.{CanWork};
 ghost use Rattle.wave_scheduler.specs.declared.outcome.WaveFault.TheVariants as wave_faults;
@@ -25,14 +25,14 @@ use std::thread::Threads;
 use wave_scheduler::outcome::{Settled, WaveFault};
 use wave_scheduler::{Gate, can_work};
 
-/// The options of a build.
+/// What is asked of a build.
 #[derive(Drop)]
 pub struct BuildOptions<'a> {
     /// The classes that are to be initialized at run time, as a list of patterns.
     pub run_time: Option<&'a str>,
     /// The classes that are to be initialized at build time, as a list of patterns.
     pub build_time: Option<&'a str>,
-    /// The most that the initializer of each class may cost: 1 to 1,000,000,000.
+    /// What the initializer of each class may cost: 1 to 1,000,000,000.
     pub budget: u64,
 }
 

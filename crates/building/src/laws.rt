@@ -1,4 +1,4 @@
-//! The law of options: they make one build of a program, or have one fault, and never both.
+//! What holds of options: they make one build of a program, or have one fault, and never both.
 
 ghost use Rattle.building.specs.Laws.{BuiltOrFault, OneFault, OneSettledAs, SettledHaveNoFault};
 

@@ -1,4 +1,4 @@
-//! The outcomes of all classes by options, on this thread and by workers.
+//! What becomes of all classes by options, on this thread and by workers.
 
 ghost use Rattle.std.specs.Prelude.{◌≡◌, ◌⊎◌, length, IfErr, IfOk, OnOk};
 ghost use Rattle.initializer_analysis.specs.Verdicts.{AreVerdicts};
@@ -18,7 +18,7 @@ use std::thread::Threads;
 use wave_scheduler::outcome::Settled;
 use wave_scheduler::{Gate, settle_all, settle_all_here};
 
-/// The outcomes of all classes, if they are as demanded.
+/// What becomes of all classes, if it is what is demanded.
 fn checked(
     alloc: Global,
     program: &Program,
@@ -37,7 +37,7 @@ fn checked(
     }
 }
 
-/// The outcomes of all classes on this thread, if they are as demanded.
+/// What becomes of all classes on this thread, if it is what is demanded.
 fn settle_asked_here(
     alloc: Global,
     program: &Program,
@@ -58,7 +58,7 @@ fn settle_asked_here(
     }
 }
 
-/// The outcomes of all classes by workers, if they are as demanded.
+/// What becomes of all classes by workers, if it is what is demanded.
 fn settle_asked<G: Gate, R: Threads + Wait + Sync>(
     rt: &R,
     alloc: Global,
@@ -83,7 +83,7 @@ fn settle_asked<G: Gate, R: Threads + Wait + Sync>(
     }
 }
 
-/// The outcomes of all classes on this thread, by the options.
+/// What becomes of all classes on this thread, by the options.
 pub(crate) fn settle_here(
     alloc: Global,
     program: &Program,
@@ -97,7 +97,7 @@ pub(crate) fn settle_here(
     }
 }
 
-/// The outcomes of all classes by workers, by the options.
+/// What becomes of all classes by workers, by the options.
 pub(crate) fn settle_by_workers<G: Gate, R: Threads + Wait + Sync>(
     rt: &R,
     alloc: Global,

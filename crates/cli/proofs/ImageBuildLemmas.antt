@@ -15,7 +15,7 @@ use Rattle.loading.specs.Families.{Family}
 use Rattle.image_format.specs.Images.{AreShort, ImageText}
 use Rattle.image_writer.specs.ImageTexts.{text_of, told_of}
 use Rattle.region_shape.specs.Wholes.{AreWhole}
-use Rattle.evaluator.specs.Regions.{environment_of}
+use Rattle.region_shape.specs.Regions.{environment_of}
 use Rattle.object_graph.specs.Images.{AreSmall, ImageTables}
 use Rattle.wave_scheduler.specs.Outcomes.{outcome_of}
 use Rattle.building.specs.Builds.{text_of as list_of}

@@ -1,4 +1,4 @@
-//! Laws of class files' bytes whatever their order.
+//! What holds of class files' bytes whatever their order.
 
 ghost use Rattle.cli.specs.AnyOrder.{StillProgram, OneProgram, StillNotLinked};
 ghost use Rattle.cli.specs.OneBuild.{OneBuild, OneBuildFault, BuiltOrRefused};

@@ -11,7 +11,7 @@ use init_engine::starting::entry_classes;
 use program::Program;
 use std::alloc::{AllocError, Global};
 
-/// The text of an audit, and whether it found nothing.
+/// What an audit tells.
 #[derive(Drop)]
 pub(crate) struct Audited {
     pub(crate) text: Vec<u8>,

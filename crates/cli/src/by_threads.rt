@@ -35,7 +35,7 @@ pub(crate) struct Journaled {
 /// The greatest limit of a run by threads.
 const GREATEST_LIMIT: u64 = 1 << 62;
 
-/// Runs a world by threads, for at most `limit` steps and 1,023 more, and sends what it prints while it runs. Answers
+/// Runs a world by threads, for at most so many steps and 1,023 more, and sends what it prints while it runs. Answers
 /// the sink back.
 ///
 /// # Errors
@@ -115,7 +115,7 @@ pub(crate) fn replayed<F: Files>(
 {
     let image = get(alloc, words.image, files)?;
     let journal = get(alloc, words.journal, files)?;
-    let start = start_of(alloc, words.entries, image.as_slice())?;
+    let start = start_of(alloc, words.entries, image)?;
     replay_text(alloc, start, journal.as_slice())
 }
 

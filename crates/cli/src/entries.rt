@@ -24,7 +24,7 @@ pub fn entries_of(alloc: Global, list: &str) -> Result<Vec<ClassName>, AllocErro
     Ok(entries)
 }
 
-/// Whether a run may have this many entries.
+/// Whether a run may have so many entries.
 pub(crate) fn is_entry_count(count: usize) -> bool
     ensures { IsTrue result ↔ IsEntryCount count }
 {

@@ -1,4 +1,4 @@
-//! Laws of all bytes and all options: something is made of them, or something is wrong with them.
+//! What there is of all bytes and all options: something is made of them, or something is wrong with them.
 
 ghost use Rattle.cli.specs.Existence.{BuildOrFault, ProgramOrRefusal};
 

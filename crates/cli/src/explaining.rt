@@ -57,7 +57,7 @@ fn forced_by(alloc: Global, program: &Program, list: Option<&str>) -> Result<For
     force(alloc, program, &patterns)
 }
 
-/// The explanation of a build's classes, where those are forced that the words say.
+/// What is to be told of the classes of a build, where those are forced that the words say.
 fn told(
     alloc: Global,
     built: &Built,
@@ -75,7 +75,7 @@ fn told(
     Ok(text)
 }
 
-/// The explanation of a build's classes, where these are forced.
+/// What is to be told of the classes of a build, where these are forced.
 fn told_of(
     alloc: Global,
     built: &Built,
@@ -102,7 +102,7 @@ fn is_all(class: &str) -> bool
     class == "all"
 }
 
-/// The explanation of all classes.
+/// What is to be told of all classes.
 fn told_of_all(alloc: Global, built: &Built, forced: &Forced) -> Result<Vec<u8>, AllocError>
     requires { GiveWaves built.now.image built.now.verdicts }
     ensures { IfOk result (λ text. IsAllText built.now.image built.now.verdicts forced.now text.items) }
@@ -111,7 +111,7 @@ fn told_of_all(alloc: Global, built: &Built, forced: &Forced) -> Result<Vec<u8>,
     Ok(text.into_bytes())
 }
 
-/// The explanation of the class of a name with dots.
+/// What is to be told of the class of a name with dots.
 fn told_of_class(
     alloc: Global,
     built: &Built,

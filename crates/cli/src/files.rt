@@ -81,7 +81,7 @@ pub trait Files {
     }
 }
 
-/// The contents of the files of these names, each of at most `most` bytes.
+/// What the files of these names hold, each at most so many bytes.
 ///
 /// # Errors
 /// `File` of the first that can't be read or is longer, or `Memory`.
@@ -106,7 +106,7 @@ pub(crate) fn contents<F: Files>(
     Ok(contents)
 }
 
-/// The content of the file of this name, of at most `most` bytes.
+/// What the file of this name holds, at most so many bytes.
 fn content<F: Files>(name: &str, files: &mut F, most: usize) -> Result<Vec<u8>, FileFault>
     ensures most { IfOk result (λ bytes. length bytes.items ≤ most) }
     ensures bytes { IfOk result (λ bytes. AreBytesOf (F.holds files.old name.now) bytes.items) }
@@ -118,7 +118,7 @@ fn content<F: Files>(name: &str, files: &mut F, most: usize) -> Result<Vec<u8>, 
     }
 }
 
-/// These bytes, where they are at most `most`.
+/// These bytes, where they are at most so many.
 fn at_most(bytes: Vec<u8>, most: usize) -> Result<Vec<u8>, FileFault>
     ensures most { IfOk result (λ bytes. length bytes.items ≤ most) }
     ensures same { IfOk result (λ taken. taken ≡ bytes) }

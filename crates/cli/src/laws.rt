@@ -1,4 +1,4 @@
-//! Laws of bytes: they make a program, or are refused for one fault; and so are runs and builds of them. What is
+//! What holds of bytes: they make a program, or are refused for one fault; and so are runs and builds of them. What is
 //! refused is not run.
 
 ghost use Rattle.cli.specs.Laws.{LinkedAreNotRefused, OneRefusal};

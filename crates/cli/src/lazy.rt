@@ -20,7 +20,7 @@ use std::alloc::{AllocError, Global};
 /// What a run by turns has shown.
 #[derive(Drop)]
 pub struct Shown {
-    /// The prints, and how far each thread has come.
+    /// What was printed, and how far each thread has come.
     pub seen: Seen,
     /// The schedule by its runs: a thread, and how many steps it made in a row.
     pub schedule: Vec<(u32, u64)>,
@@ -36,7 +36,7 @@ pub struct LazyRun {
 }
 
 /// Runs class files by turns, from their bytes: each entry's `main` in a thread of its own, each class initialized when
-/// a thread first needs it, for at most `limit` steps.
+/// a thread first needs it, for at most so many steps.
 ///
 /// # Errors
 /// The first that holds of `Entry` of `Count` (there is no entry or more than 64), `Class` (a text is no class file),
@@ -71,7 +71,7 @@ pub fn run_class_files(
     }
 }
 
-/// Runs a world by turns, for at most `limit` steps.
+/// Runs a world by turns, for at most so many steps.
 pub(crate) fn shown_by_turns(
     alloc: Global,
     program: &Program,

@@ -1,4 +1,4 @@
-//! Outputs that would be written over an input or another output.
+//! What words name for output, beside what they name for input.
 ghost use Rattle.std.specs.Prelude.{◌≡◌, ◌≢◌, IfSome, None, Some, true};
 ghost use Rattle.command_line.specs.Requests.{texts};
 ghost use Rattle.cli.specs.Lists.{list_of};

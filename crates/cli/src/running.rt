@@ -47,7 +47,7 @@ impl From<AllocError> for RunFault {
     }
 }
 
-/// Runs a world by turns, for at most `limit` steps, and sends what it prints while it runs: after 64 KiB of text or
+/// Runs a world by turns, for at most so many steps, and sends what it prints while it runs: after 64 KiB of text or
 /// 50,000 steps at the latest.
 ///
 /// # Errors
@@ -83,7 +83,7 @@ pub fn run_world<W: Write>(
     }
 }
 
-/// What is left to tell of a run by turns that is over.
+/// What is left to tell of turns that are over.
 fn what_is_left(alloc: Global, program: &Program, turning: Turning) -> Result<Ran, AllocError>
     ensures stands { IfOk result (IsStanding program.now (world_of turning.world)) }
     ensures schedule { IfOk result (λ ran. ran.schedule.items ≡ turning.schedule) }
@@ -99,7 +99,7 @@ fn what_is_left(alloc: Global, program: &Program, turning: Turning) -> Result<Ra
     })
 }
 
-/// Sends the prints after the first `sent`, and answers how many there are.
+/// Sends what was printed after so many prints, and answers how many there are.
 fn send_further<W: Write>(printed: &Output, sent: usize, out: &mut W) -> Result<usize, RunFault>
     requires { sent ≤ length printed.now }
     ensures all { IfOk result (λ count. count ≡ length printed.now) }

@@ -8,15 +8,15 @@ use crate::builds::build;
 use building::{BuildFault, BuildOptions, Built};
 use built_in::class_id::ClassId;
 use evaluator::outcome::Outcome;
-use evaluator::regions::Regions;
 use evaluator::settling::settle;
 use program::Program;
+use region_shape::regions::Regions;
 use std::alloc::{AllocError, Global};
 use std::sync::Wait;
 use std::thread::Threads;
 use wave_scheduler::Gate;
 
-/// A stage of a build.
+/// What a build does.
 #[derive(Clone, Copy, Debug)]
 pub enum Stage {
     /// Class files are read.
@@ -43,7 +43,7 @@ pub trait Watch {
     /// A class was initialized, or refused.
     fn done(&self);
 
-    /// The work of the build now, in words that follow 'while'. None where it is not known or memory is refused for it.
+    /// What the build is at, in words that follow 'while'. None where that is not known, or memory is refused for it.
     fn work(&self, alloc: Global) -> Option<String>;
 }
 

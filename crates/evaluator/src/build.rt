@@ -10,12 +10,12 @@ ghost use Rattle.machine.specs.ObjectParts.{slot_in};
 ghost use Rattle.evaluator.specs.steps.Builds.{Building, run_build, stopped_build, CanUseAtBuild};
 ghost use Rattle.evaluator.specs.steps.BuildTables.{build_of};
 
-use crate::regions::{Region, Regions};
 use built_in::class_id::{ArrayType, BuiltIn, ClassId};
 use machine::kinds::{Actor, Stop};
 use machine::sharing::{length_of, named_slot};
 use machine::store::Store;
 use program::Program;
+use region_shape::regions::{Region, Regions};
 use std::alloc::{AllocError, Global};
 use vm_state::object::Slots;
 use vm_state::value::{Maker, Name, Value};
@@ -107,7 +107,7 @@ fn is_of_maker(class: u32, object: Name) -> bool
     }
 }
 
-/// How many elements were made with `elements` more, unless it were more than `most`.
+/// How many elements were made with so many more, unless it were more than may be.
 fn counted(made: u64, elements: u64, most: u64) -> Option<u64>
     ensures { result ≡ (if nat_lt most (made + elements) then None else Some (made + elements)) }
 {
@@ -118,7 +118,7 @@ fn counted(made: u64, elements: u64, most: u64) -> Option<u64>
 }
 
 impl<'a> Build<'a> {
-    /// One more object of its own, with which `made` elements were made.
+    /// One more object of its own, with which so many elements were made.
     fn add(&mut self, class: ClassId, slots: Slots, made: u64) -> Result<Name, Stop>
         ensures name { IfOk result (λ name. name
             ≡ record { maker = Maker.Class self.old.class; number = (pool_by self.old.own.objects).count }) }

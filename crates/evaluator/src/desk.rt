@@ -6,14 +6,14 @@ ghost use Rattle.vm_state.specs.Shares.{shared_of};
 ghost use Rattle.program.specs.Tables.{Tables};
 ghost use Rattle.courses.specs.steps.StepTables.{KeepsSteps};
 ghost use Rattle.machine.specs.Linked.{program_of};
-ghost use Rattle.evaluator.specs.Regions.{region_of};
+ghost use Rattle.region_shape.specs.Regions.{region_of};
 ghost use Rattle.evaluator.specs.steps.Desks.{IsAlone, GoesAhead};
 
-use crate::regions::Region;
 use courses::course::run_segment;
 use courses::step_table::StepTable;
 use machine::kinds::Actor;
 use program::Program;
+use region_shape::regions::Region;
 use std::alloc::{AllocError, Global};
 use std::mem;
 use vm_state::classes::{Classes, Fields};
@@ -53,8 +53,8 @@ impl Desk {
         }
     }
 
-    /// Runs frames of an initializer that has done `done` instructions, as long as they touch no class but its own and
-    /// make no array, and there were fewer than `most`. It answers how many there were.
+    /// Runs frames of an initializer that has done so many instructions, as long as they touch no class but its own and
+    /// make no array, and there were fewer than so many. It answers how many there were.
     ///
     /// # Errors
     /// `AllocError` where memory is refused. The frames and the region are of no use then.

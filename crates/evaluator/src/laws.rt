@@ -1,8 +1,8 @@
-//! Laws of classes that can be settled, and of the regions that are left.
+//! What holds of classes that can be settled, and of the regions that are left.
 
 ghost use Rattle.evaluator.specs.Settleable.{SettleableAreUnbarred, WholeStayWhole};
 
-/// Each class that can be settled meets what [`settle`](crate::settling::settle) requires.
+/// What [`settle`](crate::settling::settle) asks for holds of each class that can be settled.
 pub fn settleable_are_unbarred()
     ensures { SettleableAreUnbarred }
 {}

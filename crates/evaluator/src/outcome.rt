@@ -1,6 +1,6 @@
-//! How a class's initializer ends at build time.
+//! What becomes of a class's initializer at build time.
 
-use crate::regions::Region;
+use region_shape::regions::Region;
 
 /// Why an initializer is refused.
 #[derive(Clone, Copy)]
@@ -15,12 +15,12 @@ pub enum Refusal {
     Faulted,
 }
 
-/// Why an initializer is stopped.
+/// What stops an initializer.
 #[derive(Clone, Copy)]
 pub enum Halt {
     /// It is refused for this reason.
     Refused(Refusal),
-    /// Its code alone bars its class.
+    /// What bars its class by the code alone.
     Barred,
 }
 
@@ -33,7 +33,7 @@ pub enum Ending {
     Stopped(Halt),
 }
 
-/// How the initializer of a class ended whose code does not bar it.
+/// What becomes of a class whose code bars nothing.
 #[derive(Drop)]
 pub enum Outcome {
     /// Its initializer left this region.

@@ -5,7 +5,7 @@ ghost use Rattle.vm_state.specs.Segments.{frames_of};
 ghost use Rattle.semantics.specs.Quiet.{quiet_step};
 ghost use Rattle.machine.specs.Accesses.{Untouched};
 ghost use Rattle.machine.specs.Linked.{program_of};
-ghost use Rattle.evaluator.specs.Regions.{region_of, environment_of};
+ghost use Rattle.region_shape.specs.Regions.{region_of, environment_of};
 ghost use Rattle.evaluator.specs.Outcomes.{stop_of};
 ghost use Rattle.evaluator.specs.steps.Within.{capped};
 ghost use Rattle.evaluator.specs.steps.Builds.{stopped_build};
@@ -15,11 +15,11 @@ ghost use Rattle.machine.specs.declared.kinds.Stop.{Stop as Reason};
 
 use crate::build::Build;
 use crate::outcome::{Halt, Refusal};
-use crate::regions::Regions;
 use machine::effects::receive;
 use machine::execute::execute;
 use machine::kinds::{Actor, Conclusion, Stop};
 use program::Program;
+use region_shape::regions::Regions;
 use std::alloc::{AllocError, Global};
 use vm_state::frame::{Frame, Segment};
 use vm_state::spares::Spares;
@@ -36,7 +36,7 @@ pub enum Turn {
     Stopped(Halt),
 }
 
-/// The next instruction of a frame, which may make `most` elements. The store is set up for it first, since what an
+/// The next instruction of a frame, which may make so many elements. The store is set up for it first, since what an
 /// instruction promises of a store is what definitions see alone.
 #[tactic(auto, unfolding(machine::specs::Accesses::unless_refused))]
 fn perform<'a>(
@@ -68,11 +68,11 @@ fn perform<'a>(
     execute(alloc, &mut spares, program, by, frame, store)
 }
 
-/// A call: the frame of the method called stands on its caller, which loses the arguments.
+/// A call: the frame of the method called stands on its caller, which loses so many operands.
 fn call(segment: &mut Segment, callee: Frame, arguments: usize) -> Result<Turn, AllocError>
     ensures { IfOk result (λ turn. Concludes (Conclusion.Calls callee arguments) segment.old turn segment.new) }
 {
-    segment.innermost.cells.drop_many(arguments);
+    segment.innermost.operands.drop_many(arguments);
     segment.call(callee)?;
     Ok(Turn::On)
 }
@@ -129,7 +129,7 @@ fn halted(stop: Stop) -> Result<Halt, AllocError>
     }
 }
 
-/// The next instruction of an initializer, which may make `most` elements.
+/// The next instruction of an initializer, which may make so many elements.
 ///
 /// # Errors
 /// `AllocError` where memory is refused.

@@ -62,7 +62,7 @@ pub(crate) fn roots_of(alloc: Global, verdicts: &[Verdict]) -> Result<Vec<usize>
     Ok(roots)
 }
 
-/// The root of a class: what stands at its number, or the class itself.
+/// What stands at the number of a class, or the class itself.
 pub(crate) fn root_of(roots: &[usize], class: usize) -> usize
     ensures { (verdicts : List Kind) → AreRoots verdicts roots.now → Leads verdicts class result }
 {
@@ -83,8 +83,8 @@ fn counts_of(alloc: Global, roots: &[usize]) -> Result<Vec<u32>, AllocError> {
     Ok(counts)
 }
 
-/// At most `most` classes for whose sake others stay at run time: those with the most first, and of as many the least
-/// class.
+/// The classes for whose sake the most others stay at run time, at most so many: those with the most first, and of as
+/// many the least class.
 pub(crate) fn most_blamed(
     alloc: Global,
     roots: &[usize],

@@ -52,7 +52,7 @@ fn may_run_for(program: &Program, callee: Callee, method: DeclaredMember) -> boo
     }
 }
 
-/// The callee of a call of an instance method.
+/// What runs for a call of an instance method.
 fn chosen_callee(choice: Choice) -> Callee
     ensures { result ≡ chosen_callee choice }
 {
@@ -63,7 +63,7 @@ fn chosen_callee(choice: Choice) -> Callee
     }
 }
 
-/// The callee of a call.
+/// What runs for a call.
 fn callee_of_call(call: CallOperation) -> Callee
     ensures { result ≡ callee_of_call call }
 {
@@ -78,7 +78,7 @@ fn callee_of_call(call: CallOperation) -> Callee
     }
 }
 
-/// The callee of an instruction.
+/// What an instruction calls.
 fn callee_of(resolved: Resolved) -> Callee
     ensures { result ≡ callee_of (meaning resolved) }
 {

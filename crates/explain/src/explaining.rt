@@ -32,7 +32,7 @@ pub struct Known {
 /// The reasons against a class that hold before its initializer is run, and those for which it depends on others.
 #[derive(Drop)]
 pub struct Explanation {
-    /// Its verdict in the end.
+    /// What became of it in the end.
     pub verdict: Option<Verdict>,
     pub forced: bool,
     pub marks: ShownMarks,
@@ -42,7 +42,7 @@ pub struct Explanation {
     pub first: Option<u32>,
 }
 
-/// The entry at the number of a class.
+/// What stands at the number of a class.
 fn other_at(others: &[Option<u32>], class: u32) -> Option<u32>
     ensures { result ≡ slice_index_or others.now class None }
 {

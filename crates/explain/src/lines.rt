@@ -21,7 +21,7 @@ use object_graph::Image;
 use report::reason_text;
 use std::alloc::{AllocError, Global};
 
-/// The words of a report on a class that is initialized at build time.
+/// What a report says of a class that is initialized at build time.
 fn built_words(alloc: Global, image: &Image, class: u32, wave: usize) -> Result<String, AllocError>
     ensures { IfOk result (λ text. string_bytes text ≡ verdict_text image.now class (Wave wave)) }
 {
@@ -29,7 +29,7 @@ fn built_words(alloc: Global, image: &Image, class: u32, wave: usize) -> Result<
     format!(in alloc; "build {wave} {kept}")
 }
 
-/// The words of a report on a class that is initialized at run time.
+/// What a report says of a class that is initialized at run time.
 fn refused_words(
     alloc: Global,
     image: &Image,
@@ -42,7 +42,7 @@ fn refused_words(
     format!(in alloc; "run {reason}")
 }
 
-/// The words of a report on a class.
+/// What a report says of a class.
 fn verdict_words(
     alloc: Global,
     image: &Image,
@@ -73,9 +73,9 @@ fn verdict_line(
     line(alloc, image.program().family(), class, words.as_str())
 }
 
-/// The explanation of one class, of a build with this budget: the line that a report has of it; what its initializer
-/// costs and leaves, or where it was stopped; and then each reason that holds, with the calls that lead to what its
-/// code is marked for, and the classes down to the one for whose sake it stays.
+/// What is to be told of one class, of a build in which initializers might cost so much: the line that a report has of
+/// it; what its initializer costs and leaves, or where it was stopped; and then each reason that holds, with the calls
+/// that lead to what its code is marked for, and the classes down to the one for whose sake it stays.
 ///
 /// # Errors
 /// Where memory runs out.
@@ -103,7 +103,7 @@ pub fn class_text(
     Ok(text)
 }
 
-/// The explanation of a class among all: without a run and calls, and with the end of such a chain alone.
+/// What is to be told of a class among all: without a run and calls, and with the end of such a chain alone.
 fn text_among_all(
     alloc: Global,
     image: &Image,
@@ -129,7 +129,7 @@ fn text_among_all(
     Ok(text)
 }
 
-/// The explanations of the first `count` classes, in the order of their numbers.
+/// What is to be told of each of the first classes, so many, in the order of their numbers.
 fn each_text(
     alloc: Global,
     image: &Image,
@@ -175,7 +175,7 @@ fn blamed_text(alloc: Global, family: &Family, blamed: &[Blamed]) -> Result<Stri
     Ok(text)
 }
 
-/// The explanations of all classes, without calls and with the ends of chains alone, and then the ten classes for
+/// What is to be told of all classes, without calls and with the ends of chains alone, and then the ten classes for
 /// whose sake the most others stay at run time.
 ///
 /// # Errors

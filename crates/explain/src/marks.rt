@@ -112,7 +112,7 @@ fn path_if(
     }
 }
 
-/// The entry at the number of a class.
+/// What stands at the number of a class.
 fn evidence_in(row: &[Option<Evidence>], class: u32) -> Option<Evidence>
     ensures { result ≡ slice_index_or row.now class None }
 {

@@ -1,7 +1,7 @@
 //! Lines of what a run of an initializer shows.
 
 ghost use Rattle.std.specs.Prelude.{◌≡◌, IfOk, string_bytes};
-ghost use Rattle.evaluator.specs.Regions.{environment_of};
+ghost use Rattle.region_shape.specs.Regions.{environment_of};
 ghost use Rattle.explain.specs.Texts.{is_of_run, made_count, IsCostLine, IsRunText, IsStopText};
 
 use crate::reruns::run_again;
@@ -22,8 +22,8 @@ fn made_count(image: &Image, class: u32) -> u64
     }
 }
 
-/// The cost of an accepted class's initializer, how many objects it made and how many of these are kept, and how many
-/// bytes they take in the image with the static fields.
+/// What the initializer of an accepted class costs, how many objects it made and how many of these are kept, and how
+/// many bytes they take in the image with the static fields.
 fn cost_line(alloc: Global, image: &Image, budget: u64, class: u32) -> Result<String, AllocError>
     ensures { IfOk result (λ text. IsCostLine image.now budget class (string_bytes text)) }
 {

@@ -10,7 +10,7 @@ ghost use Rattle.explain.specs.steps.Trees.{IsTree, JoinsFrom};
 use graph::{Graph, Visited};
 use std::alloc::{AllocError, Global};
 
-/// The vertices that one reaches, the nearest first, each with the place of the one from which it was found.
+/// What a vertex reaches, the nearest first, and of each the place of the one from where it was found.
 #[derive(Drop)]
 pub struct Search {
     pub(crate) seen: Visited,
@@ -83,7 +83,7 @@ fn search_from(
 }
 
 impl Search {
-    /// A search that has found nothing yet, in a graph of `limit` vertices.
+    /// That of nothing, in a graph of so many vertices.
     ///
     /// # Errors
     /// Where memory runs out.

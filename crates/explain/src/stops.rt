@@ -95,7 +95,7 @@ fn elements_wanted(program: &Program, frame: &Frame) -> u64 {
     };
     match program.instruction(class, index, frame.place) {
         Some(Instruction::NewArray(_) | Instruction::NewReferenceArray(_)) => {
-            match frame.cells.top_int() {
+            match frame.operands.top_int() {
                 Ok(count) => u64::from(count.max(0).cast_unsigned()),
                 Err(_) => 0,
             }

@@ -23,7 +23,7 @@ pub fn load(frame: &mut Frame, kind: OperandKind, at: u16) -> Result<(), Trap>
     ensures gives { loads kind at frame.old ≡ completed result frame.new }
     ensures same { OnErr result (frame.new ≡ frame.old) }
 {
-    let value = kind.of(frame.cells.value_at(at)?)?;
+    let value = kind.of(frame.locals.value_at(at)?)?;
     push(frame, value)
 }
 
@@ -36,9 +36,9 @@ pub fn store(frame: &mut Frame, kind: OperandKind, at: u16) -> Result<(), Trap>
     ensures gives { stores_top kind at frame.old ≡ completed result frame.new }
     ensures same { OnErr result (frame.new ≡ frame.old) }
 {
-    let value = top_as(&frame.cells, kind)?;
-    frame.cells.store_value(at, value)?;
-    frame.cells.drop_top();
+    let value = top_as(&frame.operands, kind)?;
+    frame.locals.store_value(at, value)?;
+    frame.operands.drop_top();
     advance(frame);
     Ok(())
 }
@@ -52,7 +52,7 @@ pub fn rearrange_stack(frame: &mut Frame, operation: StackOperation) -> Result<(
     ensures gives { rearranges operation frame.old ≡ completed result frame.new }
     ensures same { OnErr result (frame.new ≡ frame.old) }
 {
-    rearrange(&mut frame.cells, operation)?;
+    rearrange(&mut frame.operands, operation)?;
     advance(frame);
     Ok(())
 }
@@ -66,8 +66,8 @@ pub fn increment(frame: &mut Frame, at: u16, by: i32) -> Result<(), Trap>
     ensures gives { updates at (λ a. computed.Int (int_wrapping_add w32 a by)) frame.old ≡ completed result frame.new }
     ensures same { OnErr result (frame.new ≡ frame.old) }
 {
-    let number = frame.cells.int_at(at)?;
-    frame.cells.store_int(at, number.wrapping_add(by))?;
+    let number = frame.locals.int_at(at)?;
+    frame.locals.store_int(at, number.wrapping_add(by))?;
     advance(frame);
     Ok(())
 }

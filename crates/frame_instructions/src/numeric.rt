@@ -36,7 +36,7 @@ pub fn push(frame: &mut Frame, value: Value) -> Result<(), Trap>
     ensures gives { pushes frame.old frame.old.operands value ≡ completed result frame.new }
     ensures same { OnErr result (frame.new ≡ frame.old) }
 {
-    frame.cells.push(value)?;
+    frame.operands.push(value)?;
     advance(frame);
     Ok(())
 }
@@ -59,7 +59,7 @@ fn put_one(frame: &mut Frame, number: Computed) -> Result<(), Trap>
     ensures gives { puts_one frame.old number ≡ completed result frame.new }
     ensures same { OnErr result (frame.new ≡ frame.old) }
 {
-    frame.cells.replace_one(number.value()?)?;
+    frame.operands.replace_one(number.value()?)?;
     advance(frame);
     Ok(())
 }
@@ -70,7 +70,7 @@ fn put_two(frame: &mut Frame, number: Computed) -> Result<(), Trap>
     ensures gives { puts_two frame.old number ≡ completed result frame.new }
     ensures same { OnErr result (frame.new ≡ frame.old) }
 {
-    frame.cells.replace_two(number.value()?)?;
+    frame.operands.replace_two(number.value()?)?;
     advance(frame);
     Ok(())
 }
@@ -84,7 +84,7 @@ pub fn negate_int(frame: &mut Frame) -> Result<(), Trap>
     ensures gives { on_int (λ a. computed.Int (int_wrapping_neg w32 a)) frame.old ≡ completed result frame.new }
     ensures same { OnErr result (frame.new ≡ frame.old) }
 {
-    let number = frame.cells.top_int()?;
+    let number = frame.operands.top_int()?;
     put_one(frame, Computed::Int(number.wrapping_neg()))
 }
 
@@ -97,7 +97,7 @@ pub fn negate_long(frame: &mut Frame) -> Result<(), Trap>
     ensures gives { on_long (λ a. computed.Long (int_wrapping_neg w64 a)) frame.old ≡ completed result frame.new }
     ensures same { OnErr result (frame.new ≡ frame.old) }
 {
-    let number = frame.cells.top_long()?;
+    let number = frame.operands.top_long()?;
     put_one(frame, Computed::Long(number.wrapping_neg()))
 }
 
@@ -110,7 +110,7 @@ pub fn convert(frame: &mut Frame, to: Conversion) -> Result<(), Trap>
     ensures gives { on_int (int_converted to) frame.old ≡ completed result frame.new }
     ensures same { OnErr result (frame.new ≡ frame.old) }
 {
-    let number = frame.cells.top_int()?;
+    let number = frame.operands.top_int()?;
     put_one(frame, convert_int(to, number))
 }
 
@@ -123,7 +123,7 @@ pub fn convert_long(frame: &mut Frame) -> Result<(), Trap>
     ensures gives { on_long long_to_int frame.old ≡ completed result frame.new }
     ensures same { OnErr result (frame.new ≡ frame.old) }
 {
-    let number = frame.cells.top_long()?;
+    let number = frame.operands.top_long()?;
     put_one(frame, long_to_int(number))
 }
 
@@ -137,8 +137,8 @@ pub fn on_ints(frame: &mut Frame, operator: IntOperator) -> Result<(), Trap>
     ensures gives { on_ints (ints_combined operator) frame.old ≡ completed result frame.new }
     ensures same { OnErr result (frame.new ≡ frame.old) }
 {
-    let right = frame.cells.top_int()?;
-    let left = frame.cells.second_int()?;
+    let right = frame.operands.top_int()?;
+    let left = frame.operands.second_int()?;
     put_two(frame, combine_ints(operator, left, right))
 }
 
@@ -152,8 +152,8 @@ pub fn on_longs(frame: &mut Frame, operator: LongOperator) -> Result<(), Trap>
     ensures gives { on_longs (longs_combined operator) frame.old ≡ completed result frame.new }
     ensures same { OnErr result (frame.new ≡ frame.old) }
 {
-    let right = frame.cells.top_long()?;
-    let left = frame.cells.second_long()?;
+    let right = frame.operands.top_long()?;
+    let left = frame.operands.second_long()?;
     put_two(frame, combine_longs(operator, left, right))
 }
 
@@ -166,8 +166,8 @@ pub fn shift(frame: &mut Frame, operator: LongOperator) -> Result<(), Trap>
     ensures gives { on_long_int (long_shifted operator) frame.old ≡ completed result frame.new }
     ensures same { OnErr result (frame.new ≡ frame.old) }
 {
-    let by = frame.cells.top_int()?;
-    let left = frame.cells.second_long()?;
+    let by = frame.operands.top_int()?;
+    let left = frame.operands.second_long()?;
     put_two(frame, shift_long(operator, left, by))
 }
 
@@ -180,7 +180,7 @@ pub fn compare(frame: &mut Frame) -> Result<(), Trap>
     ensures gives { on_longs longs_compared frame.old ≡ completed result frame.new }
     ensures same { OnErr result (frame.new ≡ frame.old) }
 {
-    let right = frame.cells.top_long()?;
-    let left = frame.cells.second_long()?;
+    let right = frame.operands.top_long()?;
+    let left = frame.operands.second_long()?;
     put_two(frame, compare_longs(left, right))
 }

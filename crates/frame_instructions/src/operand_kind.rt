@@ -3,7 +3,7 @@
 ghost use Rattle.std.specs.Prelude.{◌≡◌, IfOk, OnErr, Some, None};
 ghost use Rattle.frame_instructions.specs.OperandKinds.{of_kind, top_as};
 
-use vm_state::cells::Cells;
+use vm_state::operands::Operands;
 use vm_state::value::{Fault, Value};
 
 /// What an operand is, by the instructions that move it: `iload`, `lload` or `aload` (JVMS 2.11.1, 2.11.2).
@@ -42,9 +42,9 @@ impl OperandKind {
 /// # Errors
 /// `Fault` where the stack is empty, or the value of another kind.
 #[inline(always)]
-pub fn top_as(cells: &Cells, kind: OperandKind) -> Result<Value, Fault>
-    ensures ok { IfOk result (λ v. top_as kind cells.now.operands ≡ Some v) }
-    ensures err { OnErr result (top_as kind cells.now.operands ≡ None) }
+pub fn top_as(operands: &Operands, kind: OperandKind) -> Result<Value, Fault>
+    ensures ok { IfOk result (λ v. top_as kind operands.now ≡ Some v) }
+    ensures err { OnErr result (top_as kind operands.now ≡ None) }
 {
-    kind.of(cells.top()?)
+    kind.of(operands.top()?)
 }

@@ -8,7 +8,7 @@ ghost use Rattle.frame_instructions.specs.Rearranging.{removed, doubled, put_und
 ghost use Rattle.frame_instructions.specs.Rearranging.{rearranged};
 
 use bytecode::StackOperation;
-use vm_state::cells::Cells;
+use vm_state::operands::Operands;
 use vm_state::value::{Fault, Value};
 
 /// How many places of an operand stack are moved together (JVMS 2.6.2).
@@ -49,26 +49,26 @@ fn is_category_1(value: Value) -> bool
 /// The value below so many others and one more.
 #[tactic(auto, using(vm_state::proofs::OperandLemmas::dropped_more))]
 #[inline(always)]
-fn next_below(cells: &Cells, others: u8) -> Result<Value, Fault>
-    ensures ok { IfOk result (λ v. top (rest (dropped others cells.now.operands)) ≡ Some v) }
-    ensures err { OnErr result (top (rest (dropped others cells.now.operands)) ≡ None) }
+fn next_below(stack: &Operands, others: u8) -> Result<Value, Fault>
+    ensures ok { IfOk result (λ v. top (rest (dropped others stack.now)) ≡ Some v) }
+    ensures err { OnErr result (top (rest (dropped others stack.now)) ≡ None) }
 {
-    cells.below(others as usize + 1)
+    stack.below(others as usize + 1)
 }
 
 /// The group of so many places below so many values.
 #[tactic(auto, unfolding(crate::specs::Rearranging::group_of))]
 #[inline(always)]
-fn group_of(cells: &Cells, places: Places, others: u8) -> Result<Group, Fault>
-    ensures ok { IfOk result (λ g. group_of places (dropped others cells.now.operands) ≡ Some g) }
-    ensures err { OnErr result (group_of places (dropped others cells.now.operands) ≡ None) }
+fn group_of(stack: &Operands, places: Places, others: u8) -> Result<Group, Fault>
+    ensures ok { IfOk result (λ g. group_of places (dropped others stack.now) ≡ Some g) }
+    ensures err { OnErr result (group_of places (dropped others stack.now) ≡ None) }
 {
-    let upper = cells.below(others as usize)?;
+    let upper = stack.below(others as usize)?;
     match places {
         Places::One if is_category_1(upper) => Ok(Group::Single(upper)),
         Places::One => Err(Fault),
         Places::Two if is_category_1(upper) => {
-            let lower = next_below(cells, others)?;
+            let lower = next_below(stack, others)?;
             if !is_category_1(lower) {
                 return Err(Fault);
             }
@@ -80,16 +80,15 @@ fn group_of(cells: &Cells, places: Places, others: u8) -> Result<Group, Fault>
 
 /// Takes off the group on top: `pop` and `pop2`.
 #[inline(always)]
-fn remove(cells: &mut Cells, places: Places) -> Result<(), Fault>
-    ensures ok { OnOk result (removed places cells.old.operands ≡ Some cells.new.operands) }
-    ensures err { OnErr result (removed places cells.old.operands ≡ None) }
-    ensures locals { cells.new.locals ≡ cells.old.locals }
-    ensures same { OnErr result (cells.new ≡ cells.old) }
+fn remove(stack: &mut Operands, places: Places) -> Result<(), Fault>
+    ensures ok { OnOk result (removed places stack.old ≡ Some stack.new) }
+    ensures err { OnErr result (removed places stack.old ≡ None) }
+    ensures same { OnErr result (stack.new ≡ stack.old) }
 {
-    let group = group_of(cells, places, 0)?;
-    cells.drop_top();
+    let group = group_of(stack, places, 0)?;
+    stack.drop_top();
     if let Group::Pair(_, _) = group {
-        cells.drop_top();
+        stack.drop_top();
     }
     Ok(())
 }
@@ -97,76 +96,71 @@ fn remove(cells: &mut Cells, places: Places) -> Result<(), Fault>
 /// Pushes the group on top once more: `dup` and `dup2`.
 #[tactic(auto, unfolding(vm_state::specs::Operands::all_pushed))]
 #[inline(always)]
-fn double(cells: &mut Cells, places: Places) -> Result<(), Fault>
-    ensures ok { OnOk result (doubled places cells.old.operands ≡ Some cells.new.operands) }
-    ensures err { OnErr result (doubled places cells.old.operands ≡ None) }
-    ensures locals { cells.new.locals ≡ cells.old.locals }
-    ensures same { OnErr result (cells.new ≡ cells.old) }
+fn double(stack: &mut Operands, places: Places) -> Result<(), Fault>
+    ensures ok { OnOk result (doubled places stack.old ≡ Some stack.new) }
+    ensures err { OnErr result (doubled places stack.old ≡ None) }
+    ensures same { OnErr result (stack.new ≡ stack.old) }
 {
-    match group_of(cells, places, 0)? {
-        Group::Single(a) => cells.push(a),
-        Group::Pair(b, a) => cells.replace(0, &[b, a]),
+    match group_of(stack, places, 0)? {
+        Group::Single(a) => stack.push(a),
+        Group::Pair(b, a) => stack.replace(0, &[b, a]),
     }
 }
 
 /// Puts the value on top once more under the group below it.
-fn put_under(cells: &mut Cells, a: Value, lower: Group) -> Result<(), Fault>
-    ensures ok { OnOk result (put_under (Group.Single a) lower cells.old.operands ≡ Some cells.new.operands) }
-    ensures err { OnErr result (put_under (Group.Single a) lower cells.old.operands ≡ None) }
-    ensures locals { cells.new.locals ≡ cells.old.locals }
-    ensures same { OnErr result (cells.new ≡ cells.old) }
+fn put_under(stack: &mut Operands, a: Value, lower: Group) -> Result<(), Fault>
+    ensures ok { OnOk result (put_under (Group.Single a) lower stack.old ≡ Some stack.new) }
+    ensures err { OnErr result (put_under (Group.Single a) lower stack.old ≡ None) }
+    ensures same { OnErr result (stack.new ≡ stack.old) }
 {
     match lower {
-        Group::Single(b) => cells.replace(2, &[a, b, a]),
-        Group::Pair(c, b) => cells.replace(3, &[a, c, b, a]),
+        Group::Single(b) => stack.replace(2, &[a, b, a]),
+        Group::Pair(c, b) => stack.replace(3, &[a, c, b, a]),
     }
 }
 
 /// Puts the two values on top once more under the group below them.
-fn put_two_under(cells: &mut Cells, b: Value, a: Value, lower: Group) -> Result<(), Fault>
-    ensures ok { OnOk result (put_under (Group.Pair b a) lower cells.old.operands ≡ Some cells.new.operands) }
-    ensures err { OnErr result (put_under (Group.Pair b a) lower cells.old.operands ≡ None) }
-    ensures locals { cells.new.locals ≡ cells.old.locals }
-    ensures same { OnErr result (cells.new ≡ cells.old) }
+fn put_two_under(stack: &mut Operands, b: Value, a: Value, lower: Group) -> Result<(), Fault>
+    ensures ok { OnOk result (put_under (Group.Pair b a) lower stack.old ≡ Some stack.new) }
+    ensures err { OnErr result (put_under (Group.Pair b a) lower stack.old ≡ None) }
+    ensures same { OnErr result (stack.new ≡ stack.old) }
 {
     match lower {
-        Group::Single(c) => cells.replace(3, &[b, a, c, b, a]),
-        Group::Pair(d, c) => cells.replace(4, &[b, a, d, c, b, a]),
+        Group::Single(c) => stack.replace(3, &[b, a, c, b, a]),
+        Group::Pair(d, c) => stack.replace(4, &[b, a, d, c, b, a]),
     }
 }
 
 /// Puts the group on top once more under the one below it: `dup_x1` to `dup2_x2`.
-fn double_under(cells: &mut Cells, places: Places, below: Places) -> Result<(), Fault>
-    ensures ok { OnOk result (doubled_under places below cells.old.operands ≡ Some cells.new.operands) }
-    ensures err { OnErr result (doubled_under places below cells.old.operands ≡ None) }
-    ensures locals { cells.new.locals ≡ cells.old.locals }
-    ensures same { OnErr result (cells.new ≡ cells.old) }
+fn double_under(stack: &mut Operands, places: Places, below: Places) -> Result<(), Fault>
+    ensures ok { OnOk result (doubled_under places below stack.old ≡ Some stack.new) }
+    ensures err { OnErr result (doubled_under places below stack.old ≡ None) }
+    ensures same { OnErr result (stack.new ≡ stack.old) }
 {
-    let group = group_of(cells, places, 0)?;
-    let lower = group_of(cells, below, group.count())?;
+    let group = group_of(stack, places, 0)?;
+    let lower = group_of(stack, below, group.count())?;
     match group {
-        Group::Single(a) => put_under(cells, a, lower),
-        Group::Pair(b, a) => put_two_under(cells, b, a, lower),
+        Group::Single(a) => put_under(stack, a, lower),
+        Group::Pair(b, a) => put_two_under(stack, b, a, lower),
     }
 }
 
 /// Exchanges the two values on top, both of category 1.
 #[tactic(auto, unfolding(crate::specs::Rearranging::group_of))]
-fn swap(cells: &mut Cells) -> Result<(), Fault>
-    ensures ok { OnOk result (exchanged cells.old.operands ≡ Some cells.new.operands) }
-    ensures err { OnErr result (exchanged cells.old.operands ≡ None) }
-    ensures locals { cells.new.locals ≡ cells.old.locals }
-    ensures same { OnErr result (cells.new ≡ cells.old) }
+fn swap(stack: &mut Operands) -> Result<(), Fault>
+    ensures ok { OnOk result (exchanged stack.old ≡ Some stack.new) }
+    ensures err { OnErr result (exchanged stack.old ≡ None) }
+    ensures same { OnErr result (stack.new ≡ stack.old) }
 {
-    let upper = cells.top()?;
+    let upper = stack.top()?;
     if !is_category_1(upper) {
         return Err(Fault);
     }
-    let lower = cells.second()?;
+    let lower = stack.second()?;
     if !is_category_1(lower) {
         return Err(Fault);
     }
-    cells.replace(2, &[upper, lower])
+    stack.replace(2, &[upper, lower])
 }
 
 /// Rearranges an operand stack.
@@ -174,21 +168,20 @@ fn swap(cells: &mut Cells) -> Result<(), Fault>
 /// # Errors
 /// `Fault` where the stack has too few values, the wrong categories, or no room. Then it is as it was.
 #[inline(always)]
-pub fn rearrange(cells: &mut Cells, operation: StackOperation) -> Result<(), Fault>
-    ensures ok { OnOk result (rearranged operation cells.old.operands ≡ Some cells.new.operands) }
-    ensures err { OnErr result (rearranged operation cells.old.operands ≡ None) }
-    ensures locals { cells.new.locals ≡ cells.old.locals }
-    ensures same { OnErr result (cells.new ≡ cells.old) }
+pub fn rearrange(stack: &mut Operands, operation: StackOperation) -> Result<(), Fault>
+    ensures ok { OnOk result (rearranged operation stack.old ≡ Some stack.new) }
+    ensures err { OnErr result (rearranged operation stack.old ≡ None) }
+    ensures same { OnErr result (stack.new ≡ stack.old) }
 {
     match operation {
-        StackOperation::Pop => remove(cells, Places::One),
-        StackOperation::Pop2 => remove(cells, Places::Two),
-        StackOperation::Dup => double(cells, Places::One),
-        StackOperation::DupX1 => double_under(cells, Places::One, Places::One),
-        StackOperation::DupX2 => double_under(cells, Places::One, Places::Two),
-        StackOperation::Dup2 => double(cells, Places::Two),
-        StackOperation::Dup2X1 => double_under(cells, Places::Two, Places::One),
-        StackOperation::Dup2X2 => double_under(cells, Places::Two, Places::Two),
-        StackOperation::Swap => swap(cells),
+        StackOperation::Pop => remove(stack, Places::One),
+        StackOperation::Pop2 => remove(stack, Places::Two),
+        StackOperation::Dup => double(stack, Places::One),
+        StackOperation::DupX1 => double_under(stack, Places::One, Places::One),
+        StackOperation::DupX2 => double_under(stack, Places::One, Places::Two),
+        StackOperation::Dup2 => double(stack, Places::Two),
+        StackOperation::Dup2X1 => double_under(stack, Places::Two, Places::One),
+        StackOperation::Dup2X2 => double_under(stack, Places::Two, Places::Two),
+        StackOperation::Swap => swap(stack),
     }
 }

@@ -1,17 +1,17 @@
-//! Laws of reading and writing.
+//! What holds between reading and writing.
 
 ghost use Rattle.std.specs.Prelude.{◌≡◌, List, ℕ, Option};
 ghost use Rattle.program.specs.Programs.{IsProgram};
 ghost use Rattle.region_shape.specs.Wholes.{AreWhole};
-ghost use Rattle.evaluator.specs.declared.regions.Region.{Region as Held};
-ghost use Rattle.evaluator.specs.Regions.{environment_of};
+ghost use Rattle.region_shape.specs.declared.regions.Region.{Region as Held};
+ghost use Rattle.region_shape.specs.Regions.{environment_of};
 ghost use Rattle.object_graph.specs.Cuts.{IsCutOf};
 ghost use Rattle.object_graph.specs.Images.{AreSmall, ImageTables};
 ghost use Rattle.image_format.specs.declared.version.Version.TheVariants.{One};
 ghost use Rattle.image_format.specs.Images.{ImageText, OldText, VersionText};
 ghost use Rattle.image_writer.specs.ImageTexts.{text_of, told_of};
 
-/// An image that was read is written as the bytes that were read.
+/// What is written of an image that was read are the bytes that were read.
 pub fn written_as_read()
     ensures { (bytes : List ℕ) (I : ImageTables) → ImageText bytes I.program.family (told_of I) → text_of I ≡ bytes }
 {}

@@ -1,4 +1,4 @@
-//! Each linked program has the tables of its class files.
+//! What holds of each linked program, since its classes' files were read.
 
 ghost use Rattle.image_writer.specs.steps.Sizes.{HasFiles};
 

@@ -114,7 +114,7 @@ pub(crate) fn push_values(
     Ok(())
 }
 
-/// The first `count` static fields of a class, with their tags.
+/// The first so many static fields of a class, with their tags.
 pub(crate) fn push_fields(
     alloc: Global,
     out: &mut Vec<u8>,

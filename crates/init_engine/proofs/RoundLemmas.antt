@@ -14,6 +14,10 @@ use Rattle.init_engine.specs.steps.Rounds.{IsAsking, IsAskedSo, IsRunAhead}
 
 -- ---- one round
 
+pub asked_nobody : (P : Program) (w : World) (most : ℕ) (before : List ℕ) → IsAskedSo P w most 0 0 w before before
+asked_nobody P w most before =
+    record { round = []; are_asked = nobody; counted = refl; recorded = sym (append-nil before) }
+
 pub asked_moved : (P : Program) (first w new : World) (most t done : ℕ) (before now after : List ℕ)
     → IsAskedSo P first most t done w before now → done < most →
     IsAsking P w t Moved new now after → IsAskedSo P first most (t + 1) (done + 1) new before after
@@ -57,6 +61,13 @@ run_of_asked nobody = refl
 run_of_asked {P} {first} (steps {t} {schedule} {w} {new} asked room stepped) =
     run_more P first w new schedule t (run_of_asked asked) stepped
 run_of_asked (passes asked room stands) = run_of_asked asked
+
+pub run_of_turns : {P : Program} {count most : ℕ} {first : World} {schedule : List ℕ} {last : World}
+    → Turns P count most first schedule last → Run P first schedule last
+run_of_turns (idle asked) = run_of_asked asked
+run_of_turns (limited asked within reached) = run_of_asked asked
+run_of_turns {P} (goes_on {most} {w} {next} {last} {round} {rest} asked some turns) =
+    runs_join_lem P w next last round rest (run_of_asked asked) (run_of_turns turns)
 
 -- ---- why turns ended
 
@@ -290,6 +301,18 @@ pub ahead_counts : (P : Program) (count left n : ℕ) (first now : World) (befor
     → IsRunAhead P count first left n now before after → length after ≡ length before + n
 ahead_counts P count left n first now before after s =
     omega (arith, ap length s.recorded, length-append before (replicate n 0), length-replicate {A = ℕ} n 0)
+
+pub none_ahead : (P : Program) (count most : ℕ) (w : World) (before : List ℕ)
+    → IsRunAhead P count w most 0 w before before
+none_ahead P count most w before =
+    let bounded : 0 ≤ most = omega arith in
+    record { run = refl; recorded = sym (append-nil before); bounded = bounded; alone = inl refl }
+
+pub one_ahead : (P : Program) (count most done : ℕ) (w now : World) (before after : List ℕ) → count ≡ 1
+    → Run P w (replicate done 0) now → after ≡ before ++ replicate done 0 → done ≤ most →
+    IsRunAhead P count w most done now before after
+one_ahead P count most done w now before after one run recorded bounded =
+    record { run = run; recorded = recorded; bounded = bounded; alone = inr one }
 
 -- ---- one thread, run ahead
 

@@ -120,6 +120,16 @@ turn_prints Ended had bytes left old new some same counted none all =
 
 -- ---- steps, and what they printed
 
+pub spends_nothing : (p : Place) (schedule : List ℕ) (lines : List Print) (a : Allowance)
+    → Spends p p schedule schedule lines lines a a
+spends_nothing p schedule lines a = record {
+  made = 0;
+  fewer_to_go = omega arith;
+  scheduled = omega arith;
+  counted = omega arith;
+  prints = prints_nothing 0 a.text lines lines refl;
+}
+
 pub spends_then : (x y z : Place) (r s t : List ℕ) (a b c : List Print) (had mid left : Allowance)
     → Spends x y r s a b had mid → Spends y z s t b c mid left → Spends x z r t a c had left
 spends_then x y z r s t a b c had mid left p q = record {
@@ -129,6 +139,11 @@ spends_then x y z r s t a b c had mid left p q = record {
   counted = omega (arith, p.counted, q.counted);
   prints = prints_then p.made q.made (p.made + q.made) had.text mid.text left.text a b c refl p.prints q.prints;
 }
+
+-- nothing was asked further
+pub asks_nothing : (P : Program) (p : Place) (now : World) (schedule : List ℕ)
+    → AsksFurther P p p now now schedule schedule
+asks_nothing P p now schedule begin rounds so = so
 
 -- none is done where nobody was asked
 ahead_is : (n left asked done : ℕ) → n ≤ left → done ≤ left → done ≤ asked → (0 < asked → n ≡ 0)
@@ -210,6 +225,14 @@ spends_turn P turn made from p w next before now after old mid new had left text
 -- the place after so many rounds of one step
 abbrev pub after_rounds : Place → ℕ → Place
 after_rounds p n = record { left = p.left - n; asked = p.asked; done = p.done }
+
+pub place_ahead : (count n : ℕ) (p : Place) → IsPlace count p → n ≤ p.left → (0 < p.asked → n ≡ 0)
+    → IsPlace count (after_rounds p n)
+place_ahead count n p is fits midst = record {
+  within = is.within;
+  bounded = (ahead_is n p.left p.asked p.done fits is.bounded is.few midst).1;
+  few = is.few;
+}
 
 pub spends_ahead : (P : Program) (count most n : ℕ) (from p : Place) (w next : World) (before now after : List ℕ)
     (old mid new : List Print) (had left : Allowance) (text : ℕ) → Spends from p before now old mid had left →

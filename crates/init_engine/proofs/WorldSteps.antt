@@ -1,9 +1,10 @@
 -- What a turn of one thread is of the whole world.
-use Rattle.std.proofs.Common.{◌≡◌, ℕ, zero, suc, List, [], ◌∷◌, Some, None, map, slice_get}
+use Rattle.std.proofs.Common.{◌≡◌, ℕ, zero, suc, ◌<◌, List, [], ◌∷◌, Some, None, map, length, get_or, slice_get}
 use Rattle.std.proofs.Common.{slice_set, option_map, refl, sym, ap, subst, ◌∙◌}
 use Rattle.std.proofs.lemmas.List.{map-set}
 use Rattle.std.proofs.lemmas.Option.{slice_get-map, get_or_from_slice_get}
 use Rattle.std.proofs.Math.Seq.{map-set_same}
+use Rattle.vm_state.proofs.ListLemmas.{item_at}
 use Rattle.vm_state.specs.SharedTables.{SharedTables}
 use Rattle.vm_state.specs.Output.{Print}
 use Rattle.vm_state.specs.SharedState.{SharedState}
@@ -117,6 +118,14 @@ set_keeps P (y ∷ ys) zero new all here (suc t) x at = all (suc t) x at
 set_keeps P (y ∷ ys) (suc i) new all here zero x at = all zero x at
 set_keeps P (y ∷ ys) (suc i) new all here (suc t) x at =
     set_keeps (λ n. P (suc n)) ys i new (λ n z h. all (suc n) z h) here t x at
+
+-- a thread of the same number in its place
+pub numbered_set : (threads : List Thread) (i : ℕ) (old new : Thread) → i < length threads → old ≡ get_or threads i old
+    → AreNumbered threads →
+    ((t : ℕ) → HasNumber old t → HasNumber new t) → AreNumbered (slice_set threads i new)
+numbered_set threads i old new inside is numbered same =
+    set_keeps (λ t thread. HasNumber thread t) threads i new numbered
+    (same i (numbered i old (item_at threads i old inside is)))
 
 pub number_set : (threads : List Thread) (i : ℕ) (new : Thread) → AreNumbered threads → HasNumber new i →
     AreNumbered (slice_set threads i new)

@@ -43,7 +43,7 @@ impl Place {
         }
     }
 
-    /// How many of `steps` steps may be rounds of one step: none in the midst of a round.
+    /// How many of so many steps may be rounds of one step: none in the midst of a round.
     fn rounds_of_one(&self, steps: u64) -> u64
         ensures left { result ≤ self.now.left }
         ensures steps { result ≤ steps }
@@ -65,7 +65,7 @@ impl Place {
     }
 }
 
-/// How many steps a slice may still take, and how many bytes it may still print.
+/// What a slice may still do: so many steps, and print so many bytes.
 #[derive(Clone, Copy)]
 pub(crate) struct Allowance {
     pub(crate) steps: u64,
@@ -93,7 +93,7 @@ fn text_at(printed: &Output, number: usize) -> u64
     }
 }
 
-/// One step of a thread, where it has one. What it printed is taken from the bytes that may still be printed.
+/// One step of a thread, where it has one, and what it printed taken from so many bytes.
 #[inline(always)]
 fn step(
     alloc: Global,
@@ -198,7 +198,7 @@ fn round(
 }
 
 /// Runs one thread ahead: instructions after each of which one of its frames goes on, and then one step, as long as it
-/// has one, there were fewer than `most`, and they printed fewer than `text` bytes. It answers how many there were.
+/// has one, there were fewer than so many, and they printed fewer than so many bytes. It answers how many there were.
 fn run_alone(
     alloc: Global,
     program: &Program,
@@ -313,8 +313,9 @@ pub(crate) fn run_rounds(
 }
 
 impl World {
-    /// Runs one thread alone, as long as it has a step, there were fewer than `steps`, and they printed fewer than
-    /// `bytes` bytes. It answers how many there were. The steps of the methods that run often enough are made and kept.
+    /// Runs steps of one thread alone, as long as it has one, there were fewer than so many, and they printed fewer
+    /// than so many bytes. It answers how many there were. The steps of the methods that run often enough are made and
+    /// kept.
     ///
     /// # Errors
     /// `AllocError` where memory is refused; the thread may have lost its frames then.

@@ -154,7 +154,7 @@ fn starting(alloc: Global, class: u32, number: u32) -> Result<Thread, AllocError
     Ok(Thread::on(alloc, number, top))
 }
 
-/// What `count` threads share in the lazy start: no class is initialized, and each thread's argument is its first
+/// What so many threads share in the lazy start: no class is initialized, and each thread's argument is its first
 /// object.
 ///
 /// # Errors

@@ -56,7 +56,7 @@ impl Drop for Turning {
 }
 
 impl Turning {
-    /// The turns of a world, of at most `limit` steps, before the first of them.
+    /// The turns of a world, of at most so many steps, before the first of them.
     pub fn new(alloc: Global, world: World, limit: u64) -> Turning
         ensures world { result.world ≡ world }
         ensures schedule { result.schedule ≡ [] }
@@ -71,7 +71,7 @@ impl Turning {
         }
     }
 
-    /// Goes on for a slice: for at most `steps` steps, and until at least `bytes` bytes were printed in it. It answers
+    /// Goes on for a slice: for at most so many steps, and until at least so many bytes were printed in it. It answers
     /// whether the turns are over: the limit was reached, or no thread has a step. A slice may end in the midst of a
     /// round, and the next one goes on from there, so the schedule is the same whatever the slices are.
     ///
@@ -109,7 +109,7 @@ impl Turning {
         Ok(over)
     }
 
-    /// The prints so far, in order.
+    /// What was printed so far, in order.
     pub fn printed(&self) -> &Output
         ensures { result.now ≡ self.now.world.printed }
     {
@@ -143,7 +143,7 @@ impl Turning {
     }
 }
 
-/// Runs a world by turns, up to a round without a step or to `limit` steps. It answers the last world, and the
+/// Runs a world by turns, up to a round without a step or to so many steps. It answers the last world, and the
 /// schedule by its runs: a thread, and how many steps it made in a row; neighbours are of different threads. Where that
 /// is of fewer steps than the limit, no thread has one.
 ///

@@ -55,7 +55,7 @@ impl Thread {
         })
     }
 
-    /// Its ending, as far as it is seen.
+    /// What is seen of it.
     #[tactic(auto, unfolding(crate::specs::Threads::seen_of))]
     pub fn ending(&self) -> Ending
         ensures { result ≡ seen_of self.now }
@@ -296,8 +296,8 @@ impl World {
     }
 
     /// Runs instructions of a thread after each of which it goes on in a frame above the same initializations, as long
-    /// as the next is such a one and there were fewer than `most`. It answers how many there were. The steps of the
-    /// methods that run often enough are made and kept.
+    /// as the next is such a one and there were fewer than so many. It answers how many steps that were. The steps of
+    /// the methods that run often enough are made and kept.
     ///
     /// # Errors
     /// `AllocError` where memory is refused; the thread may have lost its frames then.

@@ -51,6 +51,13 @@ line_then r tail =
     append_assoc (decimal r.0) (32 ∷ (decimal r.1 ++ 10 ∷ [])) tail in
     f ∙ ap (λ xs. decimal r.0 ++ 32 ∷ xs) e
 
+-- the parts of a text, before a space and before byte 0A, make a line
+pub line_made : (text a b c d : List ℕ) (t n : ℕ) → text ≡ a ++ 32 ∷ b → b ≡ c ++ 10 ∷ d → a ≡ decimal t → c ≡ decimal n
+    → text ≡ line_of (t, n) ++ d
+line_made text a b c d t n e f g h =
+    e ∙ (ap (λ xs. xs ++ 32 ∷ b) g ∙ (ap (λ xs. decimal t ++ 32 ∷ xs) (f ∙ ap (λ xs. xs ++ 10 ∷ d) h)
+    ∙ sym (line_then (t, n) d)))
+
 small : (r : ℕ × ℕ) → IsRun r → r.0 < 2 ^ 64
 small r is = omega (arith, is.0)
 
@@ -89,6 +96,14 @@ no_numbers a b m n p q e f none r is g h =
     let t : r.0 ≡ m = decimal_injective r.0 m (small r is) p (sym g ∙ e) in
     let k : r.1 ≡ n = decimal_injective r.1 n is.2 q (sym h ∙ f) in
     none (omega (arith, is.0, t)) (omega (arith, is.1, k))
+
+pub no_thread : (a b : List ℕ) → ((n : ℕ) → n < 2 ^ 64 → a ≢ decimal n) → (r : ℕ × ℕ) → IsRun r → a ≡ decimal r.0
+    → b ≢ decimal r.1
+no_thread a b none r is g h = none r.0 (small r is) g
+
+pub no_steps : (a b : List ℕ) → ((n : ℕ) → n < 2 ^ 64 → b ≢ decimal n) → (r : ℕ × ℕ) → IsRun r → a ≡ decimal r.0
+    → b ≢ decimal r.1
+no_steps a b none r is g h = none r.1 is.2 h
 
 -- a line has a byte
 pub some_bytes : (r : ℕ × ℕ) → 0 < length (line_of r)

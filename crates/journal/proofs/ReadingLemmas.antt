@@ -7,7 +7,7 @@ use Rattle.init_engine.proofs.ScheduleLemmas.{schedule_of-more}
 use Rattle.journal.specs.declared.fault.JournalFault.{JournalFault}
 use Rattle.journal.specs.declared.fault.JournalFault.TheVariants.{Memory, Text}
 use Rattle.journal.specs.Journals.JournalFails.{line as fails}
-use Rattle.journal.specs.Journals.{JournalFails, AreLines, IsFirstFault, IsRun, MayFollow, in_row}
+use Rattle.journal.specs.Journals.{JournalFails, AreLines, IsFirstFault, IsJournalOf, IsRun, MayFollow, in_row}
 use Rattle.journal.specs.Journals.{last_in_row, line_of, lines_of}
 use Rattle.journal.specs.Journals.AreLines.{none, more}
 use Rattle.journal.specs.steps.Adding.{Extends, IsAdded, IsReadSo}
@@ -57,6 +57,18 @@ read_more text rest tail line now new r so is added =
       last = λ t. added.1.last t ∙ (ap (λ k. in_row t k r) (so.last t) ∙ sym (last_more t so.before r));
     }
 
+pub read_whole : (text rest : List ℕ) (line : ℕ) (now : List (ℕ × ℕ)) → IsReadSo text rest line now → length rest ≡ 0
+    → IsJournalOf text now
+read_whole text [] line now so e =
+    record {
+      read = so.before;
+      lines = so.lines;
+      written = so.whole
+          ∙ append-nil (lines_of so.before);
+      schedule = so.schedule;
+    }
+read_whole text (x ∷ rest) line now so e = absurd (omega (arith, e))
+
 pub no_line : (text rest : List ℕ) (line : ℕ) (now : List (ℕ × ℕ)) → IsReadSo text rest line now → 0 < length rest
     → ((r : ℕ × ℕ) (tail : List ℕ) → IsRun r → rest ≢ line_of r ++ tail) → IsFirstFault text line
 no_line text rest line now so some wrong = record {
@@ -92,6 +104,9 @@ pub line_small : (text rest : List ℕ) (line : ℕ) (now : List (ℕ × ℕ)) �
     → line + length rest ≤ length text + 1
 line_small text rest line now so =
     omega (arith, so.counted, count_small so.before, ap length so.whole, length-append (lines_of so.before) rest)
+
+pub rest_smaller : (rest tail : List ℕ) (r : ℕ × ℕ) → rest ≡ line_of r ++ tail → length tail < length rest
+rest_smaller rest tail r is = omega (arith, ap length is, length-append (line_of r) tail, some_bytes r)
 
 -- a line that can't be added is at fault, but for want of memory
 pub line_fails : (text rest tail : List ℕ) (line : ℕ) (now : List (ℕ × ℕ)) (r : ℕ × ℕ) (fault : JournalFault)

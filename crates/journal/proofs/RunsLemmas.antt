@@ -89,6 +89,17 @@ extends_same old xs new u c t n was runs same small made =
       fits = omega (arith, ap (last_in_row t) is ∙ last_is t xs c (subst AreRuns is runs), small);
     }
 
+pub extends_none : (old new : List (ℕ × ℕ)) (t n : ℕ) → old ≡ [] → 0 < n → n < 2 ^ 64 → new ≡ old ++ (t, n) ∷ []
+    → Extends old t n new
+extends_none old new t n is some small made =
+    let now : new ≡ (t, n) ∷ [] = made ∙ ap (λ r. r ++ (t, n) ∷ []) is in
+    record {
+      runs = subst AreRuns (sym now) (some, tt, tt);
+      schedule = ap schedule_of made ∙ schedule_of-more old t n;
+      last = λ s. ap (last_in_row s) made ∙ last_more s old (t, n);
+      fits = omega (arith, ap (last_in_row t) is, small);
+    }
+
 pub too_many : (old xs : List (ℕ × ℕ)) (u c t n : ℕ) → old ≡ xs ++ (u, c) ∷ [] → AreRuns old → u ≡ t → 2 ^ 64 ≤ c + n
     → ¬ (last_in_row t old + n < 2 ^ 64)
 too_many old xs u c t n was runs same many fits =

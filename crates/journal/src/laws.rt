@@ -1,4 +1,4 @@
-//! Laws of journals. The bodies are empty: each contract is a theorem.
+//! What holds of journals. The bodies are empty: each contract is a theorem.
 
 ghost use Rattle.std.specs.Prelude.{◌≡◌, ℕ, List};
 ghost use Rattle.init_engine.specs.Schedules.{schedule_of, AreRuns};

@@ -7,7 +7,7 @@ ghost use Rattle.journal.specs.Journals.{line_of, IsRun};
 
 use crate::number::number;
 
-/// The bytes before the first `mark`, and those behind it. None where there is no `mark`.
+/// What stands before the first such byte, and what stands behind it.
 fn cut(bytes: &[u8], mark: u8) -> Option<(&[u8], &[u8])>
     ensures some { IfSome result (λ r. (bytes.now ≡ r.0.now ++ mark ∷ r.1.now) × All (λ b. b ≢ mark) r.0.now) }
     ensures none { IfNone result (All (λ b. b ≢ mark) bytes.now) }

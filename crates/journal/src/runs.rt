@@ -5,8 +5,8 @@ ghost use Rattle.init_engine.specs.Schedules.{AreRuns};
 ghost use Rattle.journal.specs.Journals.{last_in_row};
 ghost use Rattle.journal.specs.steps.Adding.{Extends};
 
-/// Adds steps of a thread to runs that have room for one more, where the steps of a run fit 64 bits then. It answers
-/// whether they do.
+/// Adds so many steps of a thread to runs that have room for one more, where the steps of a run fit 64 bits then. It
+/// answers whether they do.
 pub fn add_steps(runs: &mut Vec<(u32, u64)>, thread: u32, steps: u64) -> bool
     requires room { vec_len runs.old < vec_capacity runs.old }
     requires some { 0 < steps }

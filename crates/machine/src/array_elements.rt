@@ -44,8 +44,8 @@ pub fn loaded<S: Store>(
     ensures { (p : List Print) → Finds S.stopped (S.run by (S.state store.now p)) (reach_loaded kind frame.now)
         result }
 {
-    let index = frame.cells.top_int()?;
-    let array = second_reference(&frame.cells)?;
+    let index = frame.operands.top_int()?;
+    let array = second_reference(&frame.operands)?;
     let element = element_at(by, store, kind, array, index)?;
     match store.slot(by, element.name, element.slot)? {
         Some(value) => Ok(value),
@@ -122,9 +122,9 @@ pub fn stored<S: Store>(
     ensures { (p : List Print) → Finds S.stopped (S.run by (S.state store.now p))
         (reach_stored program.now kind frame.now) result }
 {
-    let value = top_stored(&frame.cells, stored_as(kind))?;
-    let index = frame.cells.second_int()?;
-    let array = third_reference(&frame.cells)?;
+    let value = top_stored(&frame.operands, stored_as(kind))?;
+    let index = frame.operands.second_int()?;
+    let array = third_reference(&frame.operands)?;
     let element = element_at(by, store, kind, array, index)?;
     check_store(program, by, store, element.array, value)?;
     Ok(Assignment { element, value })
@@ -152,7 +152,7 @@ pub fn store_element<S: Store>(
         Err(abrupt) => return end_early(alloc, by, store, abrupt),
     };
     store.change(by, stored.element.name, stored.element.slot, stored.value)?;
-    frame.cells.drop_many(3);
+    frame.operands.drop_many(3);
     advance(frame);
     Ok(Conclusion::Stays)
 }

@@ -19,8 +19,8 @@ use built_in::class_id::{ArrayType, BuiltIn, ClassId};
 use bytecode::ElementKind;
 use frame_instructions::operand_kind::{OperandKind, top_as};
 use frame_instructions::trap::Trap;
-use vm_state::cells::Cells;
 use vm_state::frame::Frame;
+use vm_state::operands::Operands;
 use vm_state::value::{Fault, Name, Value};
 
 /// An element that there is.
@@ -38,11 +38,11 @@ pub struct Element {
 /// # Errors
 /// `Fault` where none is there.
 #[inline(always)]
-pub fn third_reference(cells: &Cells) -> Result<Value, Fault>
-    ensures ok { IfOk result (λ v. top_as OperandKind.Reference (rest (rest cells.now.operands)) ≡ Some v) }
-    ensures err { OnErr result (top_as OperandKind.Reference (rest (rest cells.now.operands)) ≡ None) }
+pub fn third_reference(operands: &Operands) -> Result<Value, Fault>
+    ensures ok { IfOk result (λ v. top_as OperandKind.Reference (rest (rest operands.now)) ≡ Some v) }
+    ensures err { OnErr result (top_as OperandKind.Reference (rest (rest operands.now)) ≡ None) }
 {
-    OperandKind::Reference.of(cells.below(2)?)
+    OperandKind::Reference.of(operands.below(2)?)
 }
 
 /// The object that a reference is to.
@@ -107,7 +107,7 @@ pub fn element_at<S: Store>(
 pub fn length_of_top<S: Store>(by: Actor, frame: &Frame, store: &S) -> Result<i32, Abrupt>
     ensures { (p : List Print) → Finds S.stopped (S.run by (S.state store.now p)) (reach_length frame.now) result }
 {
-    let array = top_as(&frame.cells, OperandKind::Reference)?;
+    let array = top_as(&frame.operands, OperandKind::Reference)?;
     let (name, class) = array_at(by, store, array)?;
     array_type(class)?;
     match store.length(by, name)? {

@@ -48,7 +48,7 @@ fn make_array<S: Store>(
         (make_array array zero frame.old) frame.new result }
     ensures kept { Keeps S.state result store.old store.new frame.old frame.new }
 {
-    let Ok(count) = frame.cells.top_int() else {
+    let Ok(count) = frame.operands.top_int() else {
         return FAULT;
     };
     let size = match size_of(count) {

@@ -68,7 +68,7 @@ pub fn receive(frame: &mut Frame, value: Option<Value>) -> Result<(), Fault>
     ensures same { OnErr result (frame.new ≡ frame.old) }
 {
     if let Some(value) = value {
-        frame.cells.push(value)?;
+        frame.operands.push(value)?;
     }
     advance(frame);
     Ok(())
@@ -226,7 +226,7 @@ fn print(
     let mut frame = frame;
     match printed.add(frames.thread, text.as_bytes()) {
         Ok(()) => {
-            frame.cells.drop_many(operands);
+            frame.operands.drop_many(operands);
             advance(&mut frame);
             stand(frames, frame, callers);
             Ok(Effect::Print(text))

@@ -6,9 +6,10 @@ ghost use Rattle.machine.specs.Linked.{blank_areas, initializer_frame, start_fra
 use program::Program;
 use program::class::Implementation;
 use std::alloc::{AllocError, Global};
-use vm_state::cells::Cells;
 use vm_state::classes::Classes;
 use vm_state::frame::{Activity, Frame};
+use vm_state::locals::Locals;
+use vm_state::operands::Operands;
 use vm_state::value::Value;
 
 /// The frame of a class's class initialization method (JVMS 2.9), where the class has one.
@@ -32,7 +33,8 @@ pub fn initializer_frame(
                 index: method,
             },
             place: 0,
-            cells: Cells::new(alloc, code.max_locals, code.max_stack)?,
+            locals: Locals::new(alloc, code.max_locals)?,
+            operands: Operands::new(alloc, code.max_stack)?,
         })),
         Some(Implementation::Abstract) => Ok(None),
         Some(Implementation::Unsupported) => Ok(None),
@@ -48,11 +50,12 @@ pub fn initializer_frame(
 pub fn start_frame(alloc: Global, class: u32, thread: u32) -> Result<Frame, AllocError>
     ensures { IfOk result (λ f. f ≡ start_frame class thread) }
 {
-    let cells = Cells::with_operand(alloc, Value::OfThread(thread, 0))?;
+    let operands = Operands::with(alloc, Value::OfThread(thread, 0))?;
     Ok(Frame {
         activity: Activity::Start(class),
         place: 0,
-        cells,
+        locals: Locals::new(alloc, 0)?,
+        operands,
     })
 }
 

@@ -19,9 +19,9 @@ use frame_instructions::operand_kind::OperandKind;
 use program::runtime_constant::FieldKind;
 use program::{Method, Program};
 use std::alloc::Global;
-use vm_state::cells::Cells;
 use vm_state::ends::FaultKind;
 use vm_state::frame::Frame;
+use vm_state::operands::Operands;
 use vm_state::spares::Spares;
 use vm_state::value::{Fault, Value};
 
@@ -31,14 +31,14 @@ const FAULT: Result<Conclusion, Stop> = Ok(Conclusion::Halts(FaultKind::Fault));
 ///
 /// # Errors
 /// `Fault` where the operands are of other kinds, or too few.
-pub fn receiver_under(cells: &Cells, kinds: &[FieldKind]) -> Result<Value, Fault>
-    ensures ok { IfOk result (λ v. receiver_under kinds.now cells.now.operands ≡ Some v) }
-    ensures err { OnErr result (receiver_under kinds.now cells.now.operands ≡ None) }
+pub fn receiver_under(operands: &Operands, kinds: &[FieldKind]) -> Result<Value, Fault>
+    ensures ok { IfOk result (λ v. receiver_under kinds.now operands.now ≡ Some v) }
+    ensures err { OnErr result (receiver_under kinds.now operands.now ≡ None) }
 {
-    if !has_arguments(kinds, cells) {
+    if !has_arguments(kinds, operands) {
         return Err(Fault);
     }
-    OperandKind::Reference.of(cells.below(kinds.len())?)
+    OperandKind::Reference.of(operands.below(kinds.len())?)
 }
 
 /// A method, if there is one, on a receiver that is not null, with so many operands as its receiver and arguments.
@@ -181,7 +181,7 @@ pub fn call_instance<S: Store>(
     let Some(kinds) = parameters(program, call.caller, call.descriptor) else {
         return FAULT;
     };
-    let Ok(receiver) = receiver_under(&frame.cells, kinds) else {
+    let Ok(receiver) = receiver_under(&frame.operands, kinds) else {
         return FAULT;
     };
     call_on(

@@ -38,10 +38,10 @@ pub fn get_field<S: Store>(
         (get_field program.now field frame.old) frame.new result }
     ensures kept { Keeps S.state result store.old store.new frame.old frame.new }
 {
-    let Ok(holder) = top_as(&frame.cells, OperandKind::Reference) else {
+    let Ok(holder) = top_as(&frame.operands, OperandKind::Reference) else {
         return FAULT;
     };
-    if !frame.cells.has_room(extra_places(field.kind)) {
+    if !frame.operands.has_room(extra_places(field.kind)) {
         return FAULT;
     }
     let Some(object) = name_of(holder) else {
@@ -53,7 +53,7 @@ pub fn get_field<S: Store>(
     let Some(value) = store.slot(by, object, field.slot as usize)? else {
         return FAULT;
     };
-    if frame.cells.replace_one(value).is_err() {
+    if frame.operands.replace_one(value).is_err() {
         return FAULT;
     }
     advance(frame);
@@ -78,10 +78,10 @@ pub fn put_field<S: Store>(
         (put_field program.now field frame.old) frame.new result }
     ensures kept { Keeps S.state result store.old store.new frame.old frame.new }
 {
-    let Ok(value) = top_stored(&frame.cells, field.kind) else {
+    let Ok(value) = top_stored(&frame.operands, field.kind) else {
         return FAULT;
     };
-    let Ok(holder) = second_reference(&frame.cells) else {
+    let Ok(holder) = second_reference(&frame.operands) else {
         return FAULT;
     };
     let Some(object) = name_of(holder) else {
@@ -91,7 +91,7 @@ pub fn put_field<S: Store>(
         return FAULT;
     }
     store.change(by, object, field.slot as usize, value)?;
-    frame.cells.drop_many(2);
+    frame.operands.drop_many(2);
     advance(frame);
     Ok(Conclusion::Stays)
 }

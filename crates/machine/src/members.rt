@@ -29,7 +29,7 @@ fn drop_operands(frame: &mut Frame, count: usize) -> Conclusion
     ensures frame { Untouched (Ok result) frame.old frame.new }
     ensures activity { frame.new.activity ≡ frame.old.activity }
 {
-    frame.cells.drop_many(count);
+    frame.operands.drop_many(count);
     advance(frame);
     Conclusion::Stays
 }
@@ -48,10 +48,10 @@ fn new_enum<S: Store>(
         (new_enum program.now receiver frame.old) frame.new result }
     ensures kept { Keeps S.state result store.old store.new frame.old frame.new }
 {
-    let Ok(ordinal) = top_as(&frame.cells, OperandKind::Int) else {
+    let Ok(ordinal) = top_as(&frame.operands, OperandKind::Int) else {
         return FAULT;
     };
-    let Ok(name) = second_reference(&frame.cells) else {
+    let Ok(name) = second_reference(&frame.operands) else {
         return FAULT;
     };
     let Some(object) = name_of(receiver) else {

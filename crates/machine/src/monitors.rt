@@ -142,7 +142,7 @@ pub fn enter_monitor<S: Store>(
         (enter_monitor frame.old) frame.new result }
     ensures kept { Keeps S.state result store.old store.new frame.old frame.new }
 {
-    let Ok(value) = top_as(&frame.cells, OperandKind::Reference) else {
+    let Ok(value) = top_as(&frame.operands, OperandKind::Reference) else {
         return FAULT;
     };
     let Some(object) = name_of(value) else {
@@ -151,7 +151,7 @@ pub fn enter_monitor<S: Store>(
     if !store.use_monitor(by, object, true)? {
         return FAULT;
     }
-    frame.cells.drop_top();
+    frame.operands.drop_top();
     advance(frame);
     Ok(Conclusion::Stays)
 }
@@ -172,7 +172,7 @@ pub fn exit_monitor<S: Store>(
         (exit_monitor frame.old) frame.new result }
     ensures kept { Keeps S.state result store.old store.new frame.old frame.new }
 {
-    let Ok(value) = top_as(&frame.cells, OperandKind::Reference) else {
+    let Ok(value) = top_as(&frame.operands, OperandKind::Reference) else {
         return FAULT;
     };
     let Some(object) = name_of(value) else {
@@ -181,7 +181,7 @@ pub fn exit_monitor<S: Store>(
     if !store.use_monitor(by, object, false)? {
         return raise(alloc, by, store, BuiltIn::IllegalMonitorStateException);
     }
-    frame.cells.drop_top();
+    frame.operands.drop_top();
     advance(frame);
     Ok(Conclusion::Stays)
 }

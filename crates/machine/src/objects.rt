@@ -39,11 +39,11 @@ fn new_object<S: Store>(
         (new_object class slots frame.old) frame.new result }
     ensures kept { Keeps S.state result store.old store.new frame.old frame.new }
 {
-    if !frame.cells.has_room(1) {
+    if !frame.operands.has_room(1) {
         return FAULT;
     }
     let object = store.make(alloc, by, class, slots)?;
-    if frame.cells.push(Value::reference_to(object)).is_err() {
+    if frame.operands.push(Value::reference_to(object)).is_err() {
         return FAULT;
     }
     advance(frame);
@@ -159,7 +159,7 @@ pub fn check_cast<S: Store>(
         (check_cast program.now class frame.old) frame.new result }
     ensures kept { Keeps S.state result store.old store.new frame.old frame.new }
 {
-    let Ok(value) = top_as(&frame.cells, OperandKind::Reference) else {
+    let Ok(value) = top_as(&frame.operands, OperandKind::Reference) else {
         return FAULT;
     };
     if !is_null(value) && !refers_to(program, by, store, class, value)? {
@@ -193,11 +193,11 @@ pub fn instance_of<S: Store>(
         (instance_of program.now class frame.old) frame.new result }
     ensures kept { Keeps S.state result store.old store.new frame.old frame.new }
 {
-    let Ok(value) = top_as(&frame.cells, OperandKind::Reference) else {
+    let Ok(value) = top_as(&frame.operands, OperandKind::Reference) else {
         return FAULT;
     };
     let is = refers_to(program, by, store, class, value)?;
-    if frame.cells.replace_one(int_of_boolean(is)).is_err() {
+    if frame.operands.replace_one(int_of_boolean(is)).is_err() {
         return FAULT;
     }
     advance(frame);
@@ -221,7 +221,7 @@ pub fn throw<S: Store>(
         (throw_row program.now frame.old) frame.new result }
     ensures kept { Keeps S.state result store.old store.new frame.old frame.new }
 {
-    let Ok(value) = top_as(&frame.cells, OperandKind::Reference) else {
+    let Ok(value) = top_as(&frame.operands, OperandKind::Reference) else {
         return FAULT;
     };
     let Some(object) = name_of(value) else {

@@ -131,13 +131,13 @@ pub fn print_value<S: Store>(
         (print_value program.now what line call frame.old) frame.new result }
     ensures kept { Keeps S.state result store.old store.new frame.old frame.new }
 {
-    let Ok(value) = frame.cells.top() else {
+    let Ok(value) = frame.operands.top() else {
         return FAULT;
     };
     let Some(text) = printed_text(alloc, program, what, value)? else {
         return FAULT;
     };
-    let Ok(receiver) = second_reference(&frame.cells) else {
+    let Ok(receiver) = second_reference(&frame.operands) else {
         return FAULT;
     };
     let text = ended(line, text)?;
@@ -165,7 +165,7 @@ pub fn end_line<S: Store>(
         (end_line program.now call frame.old) frame.new result }
     ensures kept { Keeps S.state result store.old store.new frame.old frame.new }
 {
-    let Ok(receiver) = top_as(&frame.cells, OperandKind::Reference) else {
+    let Ok(receiver) = top_as(&frame.operands, OperandKind::Reference) else {
         return FAULT;
     };
     let text = Text::line_end(alloc)?;

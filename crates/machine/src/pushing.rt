@@ -32,7 +32,7 @@ pub fn push_value(frame: &mut Frame, value: Value) -> Conclusion
     ensures frame { Untouched (Ok result) frame.old frame.new }
     ensures activity { frame.new.activity ≡ frame.old.activity }
 {
-    match frame.cells.push(value) {
+    match frame.operands.push(value) {
         Ok(()) => {
             advance(frame);
             Conclusion::Stays
@@ -47,7 +47,7 @@ pub fn replace_top(frame: &mut Frame, value: Value) -> Conclusion
     ensures frame { Untouched (Ok result) frame.old frame.new }
     ensures activity { frame.new.activity ≡ frame.old.activity }
 {
-    match frame.cells.replace_one(value) {
+    match frame.operands.replace_one(value) {
         Ok(()) => {
             advance(frame);
             Conclusion::Stays
@@ -63,7 +63,7 @@ pub fn replace_two(frame: &mut Frame, value: Value) -> Conclusion
     ensures frame { Untouched (Ok result) frame.old frame.new }
     ensures activity { frame.new.activity ≡ frame.old.activity }
 {
-    match frame.cells.replace_two(value) {
+    match frame.operands.replace_two(value) {
         Ok(()) => {
             advance(frame);
             Conclusion::Stays

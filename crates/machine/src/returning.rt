@@ -16,7 +16,7 @@ pub fn return_value(frame: &Frame, kind: ReturnKind) -> Conclusion
 {
     match kind {
         ReturnKind::Nothing => Conclusion::Returns(None),
-        ReturnKind::Value(kind) => match top_stored(&frame.cells, kind) {
+        ReturnKind::Value(kind) => match top_stored(&frame.operands, kind) {
             Ok(value) => Conclusion::Returns(Some(value)),
             Err(_) => Conclusion::Halts(FaultKind::Fault),
         },

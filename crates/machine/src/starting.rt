@@ -17,9 +17,10 @@ use built_in::class_id::BuiltIn;
 use program::Program;
 use program::class::{Implementation, MethodCode};
 use std::alloc::{AllocError, Global};
-use vm_state::cells::Cells;
 use vm_state::ends::FaultKind;
 use vm_state::frame::{Activity, Frame};
+use vm_state::locals::Locals;
+use vm_state::operands::Operands;
 use vm_state::value::{Fault, Value};
 
 /// The frame of a method that has just been called with one argument; none where the method has no local variable
@@ -37,15 +38,17 @@ fn called(
         (λ f. (locals : List (Option Value)) × (stored (replicate code.now.max_locals None) 0 argument ≡ Some locals)
         × (f ≡ called class method code.now locals))) }
 {
-    let mut cells = Cells::new(alloc, code.max_locals, code.max_stack)?;
-    match cells.store_value(0, argument) {
+    let mut locals = Locals::new(alloc, code.max_locals)?;
+    let operands = Operands::new(alloc, code.max_stack)?;
+    match locals.store_value(0, argument) {
         Ok(()) => Ok(Some(Frame {
             activity: Activity::Method {
                 class,
                 index: method,
             },
             place: 0,
-            cells,
+            locals,
+            operands,
         })),
         Err(Fault) => Ok(None),
     }
@@ -70,7 +73,7 @@ fn call_main(
         Some(Implementation::Abstract) => Ok(Conclusion::Halts(FaultKind::Missing)),
         Some(Implementation::Unsupported) => Ok(Conclusion::Halts(FaultKind::Unsupported)),
         Some(Implementation::Code(code)) => {
-            let Ok(argument) = frame.cells.top() else {
+            let Ok(argument) = frame.operands.top() else {
                 return Ok(Conclusion::Halts(FaultKind::Fault));
             };
             match called(alloc, class, method, code, argument)? {

@@ -41,7 +41,7 @@ pub fn get_static<S: Store>(
         return raise(alloc, by, store, BuiltIn::NoClassDefFoundError);
     }
     let value = store.read_static(by, class, field)?;
-    if frame.cells.push(value).is_err() {
+    if frame.operands.push(value).is_err() {
         return FAULT;
     }
     advance(frame);
@@ -70,11 +70,11 @@ pub fn put_static<S: Store>(
     if !store.use_class(by, class)? {
         return raise(alloc, by, store, BuiltIn::NoClassDefFoundError);
     }
-    let Ok(value) = top_stored(&frame.cells, kind) else {
+    let Ok(value) = top_stored(&frame.operands, kind) else {
         return FAULT;
     };
     store.write_static(alloc, by, class, field, value)?;
-    frame.cells.drop_top();
+    frame.operands.drop_top();
     advance(frame);
     Ok(Conclusion::Stays)
 }

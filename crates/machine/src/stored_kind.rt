@@ -5,7 +5,7 @@ ghost use Rattle.machine.specs.StoredKinds.{operand_kind, extra_places, top_stor
 
 use frame_instructions::operand_kind::{OperandKind, top_as};
 use program::runtime_constant::FieldKind;
-use vm_state::cells::Cells;
+use vm_state::operands::Operands;
 use vm_state::value::{Fault, Value};
 
 /// The kind of operand that values of a type are; none of float and double, which are left out.
@@ -38,13 +38,13 @@ pub fn extra_places(kind: FieldKind) -> u32
 /// # Errors
 /// `Fault` where the stack is empty, or the value of another kind.
 #[inline(always)]
-pub fn top_stored(cells: &Cells, kind: FieldKind) -> Result<Value, Fault>
-    ensures ok { IfOk result (λ v. top_stored kind cells.now.operands ≡ Some v) }
-    ensures err { OnErr result (top_stored kind cells.now.operands ≡ None) }
+pub fn top_stored(operands: &Operands, kind: FieldKind) -> Result<Value, Fault>
+    ensures ok { IfOk result (λ v. top_stored kind operands.now ≡ Some v) }
+    ensures err { OnErr result (top_stored kind operands.now ≡ None) }
 {
     let Some(operand) = operand_kind(kind) else {
         return Err(Fault);
     };
-    let value = top_as(cells, operand)?;
+    let value = top_as(operands, operand)?;
     Ok(kind.narrow(value))
 }

@@ -28,8 +28,8 @@ fn handle(frame: &mut Frame, place: u32, exception: Name) -> Result<(), Fault>
     ensures err { OnErr result (handled place exception frame.old ≡ None) }
 {
     frame.place = place;
-    frame.cells.clear();
-    frame.cells.push(Value::reference_to(exception))?;
+    frame.operands.clear();
+    frame.operands.push(Value::reference_to(exception))?;
     Ok(())
 }
 

@@ -40,7 +40,7 @@ pub enum Trigger {
 fn monitor_trigger(frame: &Frame) -> Trigger
     ensures { result ≡ monitor_trigger (top_of_kind Reference frame.now.operands) }
 {
-    let Ok(value) = top_as(&frame.cells, OperandKind::Reference) else {
+    let Ok(value) = top_as(&frame.operands, OperandKind::Reference) else {
         return Trigger::Nothing;
     };
     match name_of(value) {

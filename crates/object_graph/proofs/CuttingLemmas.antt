@@ -14,8 +14,8 @@ use Rattle.program.specs.Programs.{IsProgram}
 use Rattle.program.specs.Tables.{Tables}
 use Rattle.region_shape.specs.Wholes.{AreWhole}
 use Rattle.place_set.specs.declared.set.Place.{Place}
-use Rattle.evaluator.specs.declared.regions.Region.{Region as Held}
-use Rattle.evaluator.specs.Regions.{region_of, region_in, environment_of}
+use Rattle.region_shape.specs.declared.regions.Region.{Region as Held}
+use Rattle.region_shape.specs.Regions.{region_of, region_in, environment_of}
 use Rattle.object_graph.specs.Cuts.{IsCutRegion, IsCutAt, IsCutOf, AreReached}
 use Rattle.object_graph.specs.Images.{AreSmall}
 use Rattle.object_graph.specs.Reached.{IsReached}

@@ -20,8 +20,8 @@ use Rattle.program.specs.Tables.{Tables, statics_if, statics_in}
 use Rattle.place_set.specs.declared.set.Place.{Place}
 use Rattle.place_set.specs.steps.Adds.{Adds}
 use Rattle.place_set.proofs.AddsLemmas.{adds_none, adds_then, adds_same}
-use Rattle.evaluator.specs.declared.regions.Region.{Region as Held}
-use Rattle.evaluator.specs.Regions.{region_of, region_in, environment_of}
+use Rattle.region_shape.specs.declared.regions.Region.{Region as Held}
+use Rattle.region_shape.specs.Regions.{region_of, region_in, environment_of}
 use Rattle.object_graph.specs.declared.name_set.ObjectName.{ObjectName}
 use Rattle.object_graph.specs.Reached.{reference_to}
 use Rattle.object_graph.specs.steps.Places.{row_in, name_in, Ascends, IsPlaceOf, HoldPlace, IsInFields, IsInStaticsOf}

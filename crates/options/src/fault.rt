@@ -1,4 +1,4 @@
-//! Faults of options.
+//! What is wrong with the options.
 
 ghost use Rattle.std.specs.Prelude.{◌≡◌};
 ghost use Rattle.options.specs.declared.fault.OptionFault.TheVariants.{Memory};
@@ -9,7 +9,7 @@ use std::alloc::{AllocError, AllocFailed};
 use std::fmt;
 use thiserror::Error;
 
-/// A fault of the options. Names of classes are printed with slashes.
+/// What is wrong with the options. Names of classes are printed with slashes.
 #[derive(Debug, Drop, Error)]
 pub enum OptionFault {
     #[error("Memory")]

@@ -75,7 +75,7 @@ fn marks_of(alloc: Global, names: &[DottedName], ends: &[usize]) -> Result<Vec<b
     }
 }
 
-/// No marks, for `count` classes.
+/// No marks, for so many classes.
 fn no_marks(alloc: Global, count: usize) -> Result<Vec<bool>, AllocError>
     ensures { IfOk result (λ marks. marks.items ≡ replicate count false) }
 {

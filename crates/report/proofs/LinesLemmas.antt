@@ -1,7 +1,8 @@
 -- The lines of a report, one after another.
 use Rattle.std.proofs.Common.{◌≡◌, ◌∙◌, ℕ, zero, suc, ◌+◌, ◌<◌, List, [], ◌∷◌, ◌++◌, length, take, get_or, sym, ap}
 use Rattle.std.proofs.Common.{add-one, arith}
-use Rattle.std.proofs.Common.{append_assoc, append-nil}
+use Rattle.std.proofs.Common.{◌≤◌, append_assoc, append-nil}
+use Rattle.std.proofs.lemmas.List.{take_all}
 use Rattle.initializer_analysis.specs.declared.verdict.Verdict.{Verdict}
 use Rattle.object_graph.specs.Images.{ImageTables}
 use Rattle.report.specs.Texts.{line_text, lines_from}
@@ -31,3 +32,8 @@ report_more I i vs v old new low is so_far added =
     ∙ ap (λ (n : ℕ). lines_from I 0 (take i vs) ++ line_text I n v) (sym same)
     ∙ sym (lines_more I 0 i vs v low is)
     ∙ ap (λ (n : ℕ). lines_from I 0 (take n vs)) (sym (add-one i))
+
+-- with the lines of all
+pub report_all : (I : ImageTables) (n : ℕ) (vs : List Verdict) (text : List ℕ) → length vs ≤ n
+    → text ≡ lines_from I 0 (take n vs) → text ≡ lines_from I 0 vs
+report_all I n vs text end is = is ∙ ap (λ (ws : List Verdict). lines_from I 0 ws) (take_all n vs end)

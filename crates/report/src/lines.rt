@@ -10,7 +10,7 @@ use initializer_analysis::verdict::{Reason, Verdict};
 use object_graph::Image;
 use std::alloc::{AllocError, Global};
 
-/// The words on a class that is initialized at build time.
+/// What is said of a class that is initialized at build time.
 fn built_text(alloc: Global, image: &Image, class: u32, wave: usize) -> Result<String, AllocError>
     ensures { IfOk result (λ text. string_bytes text ≡ verdict_text image.now class (Wave wave)) }
 {
@@ -18,7 +18,7 @@ fn built_text(alloc: Global, image: &Image, class: u32, wave: usize) -> Result<S
     format!(in alloc; "build {wave} {count}")
 }
 
-/// The words on a class that is initialized at run time.
+/// What is said of a class that is initialized at run time.
 fn refused_text(
     alloc: Global,
     image: &Image,

@@ -98,7 +98,7 @@ fn stack_text(alloc: Global, program: &Program, frames: &Frames) -> Result<Strin
     Ok(text)
 }
 
-/// The class or the monitor that the next step of a thread needs and another one may hold.
+/// What the next step of a thread needs that another one may hold.
 fn needed(program: &Program, frames: &Frames) -> Trigger {
     if let Some(frame) = frames.innermost() {
         return trigger_of(program, frame);

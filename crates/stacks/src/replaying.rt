@@ -38,7 +38,7 @@ fn note_run(last: &mut Vec<usize>, thread: u32, place: usize)
     }
 }
 
-/// For each of `count` threads the place of its last run, if it has one.
+/// For each of so many threads the place of its last run, if it has one.
 fn last_runs(alloc: Global, runs: &[(u32, u64)], count: usize) -> Result<Vec<usize>, AllocError>
     ensures last { IfOk result (λ last. AreLast runs.now last.items) }
     ensures count { IfOk result (λ last. length last.items ≡ count) }
@@ -61,7 +61,7 @@ fn is_last(last: &[usize], thread: u32, place: usize) -> bool
     }
 }
 
-/// Makes `steps` steps of a thread. It answers whether it had them all.
+/// Makes so many steps of a thread. It answers whether it had so many.
 fn take_steps(
     alloc: Global,
     program: &Program,
@@ -90,7 +90,7 @@ fn take_steps(
     Ok(true)
 }
 
-/// Makes `steps` steps of a thread, and answers its frames before the last of them, if it had them all.
+/// Makes so many steps of a thread, and answers its frames before the last of them, if it had so many.
 fn take_last_run(
     alloc: Global,
     program: &Program,
@@ -123,7 +123,7 @@ fn take_last_run(
 }
 
 /// Makes the steps of a run, where its thread is there, and keeps the frames of the thread before the last of them,
-/// where it is its last run. It answers whether it had them all.
+/// where it is its last run. It answers whether there were so many.
 fn take_run(
     alloc: Global,
     program: &Program,
@@ -166,7 +166,7 @@ fn take_run(
     }
 }
 
-/// For each of `count` threads no frames.
+/// For each of so many threads no frames.
 fn no_frames(alloc: Global, count: u32) -> Result<Vec<Option<Frames>>, AllocError>
     ensures { IfOk result (λ before. length before.items ≡ count) }
 {

@@ -224,7 +224,7 @@ fn commit_both<O: Origin>(
     Ok((counts, stale, text_of(alloc, book)?))
 }
 
-/// Two commits of stretches made where the thread is, at a start or after a first commit.
+/// The same at a start, or after a first commit.
 fn commit_twice<O: Origin>(
     alloc: Global,
     program: &Program,

@@ -100,7 +100,7 @@ fn sixty_four_threads_meet(rt: HostRuntime) -> Result<(), Fail> {
     Ok(())
 }
 
-/// A gate where all meet and that says that it is open. Threads of which several go on ask it nevertheless.
+/// The same, but it says that it is open. Threads of which several go on ask it all the same.
 #[derive(Drop)]
 struct OpenMeet<'a, R: Clock> {
     meet: Meet<'a, R>,

@@ -114,7 +114,7 @@ fn the_last_thread_goes_on_alone(rt: HostRuntime) -> Result<(), Fail> {
     Ok(())
 }
 
-/// A limit of steps: `Ever` takes longer for them than it takes to start another thread.
+/// So many steps of `Ever` take longer than it takes to start another thread.
 const EVER_LIMIT: u64 = 100_000_000;
 
 #[test]

@@ -102,6 +102,12 @@ pub far_here_if : {E : Type 0} (P : Tables) (w v : World) (t : ℕ) (to : Frames
 far_here_if P w v t to count (Ok turn) is h = far_here P w v t to count turn is h
 far_here_if P w v t to count (Err e) is h = tt
 
+pub far_there : (P : Tables) (w m v : World) (t : ℕ) (to : Frames) (count : ℕ) (turn : Turn) → 0 < count
+    → m ≡ with_thread w t (going to) → IsTurn (program_of P) m t turn v
+    → IsTurn (program_of P) (there w t to count) t turn v
+far_there P w m v t to zero turn some is h = absurd (omega (arith, some))
+far_there P w m v t to (suc n) turn some is h = subst (λ x. IsTurn (program_of P) x t turn v) is h
+
 -- exchanged twice
 pub exchanged_back : (w m n u : World) (t : ℕ) (a b : Thread) → slice_get w.threads t ≡ Some a
     → m ≡ with_thread w t b → n ≡ m → u ≡ with_thread n t a → u ≡ w
@@ -133,6 +139,10 @@ grows_by turns.Ended old new same = grows_none old new same
 -- a history of these parts
 abbrev pub past_of : Standing → List (ℕ × ℕ) → ℕ → Past
 past_of w j limit = record { world = w; journal = j; limit = limit }
+
+-- a history goes on where nothing happens, and by a turn
+pub stays_so : (h : Past) → GoesOn h h
+stays_so h = record { grows = grows_none h.world.printed h.world.printed refl; threads = refl; limit = refl }
 
 pub goes_none : (h : Past) (w : Standing) (j : List (ℕ × ℕ)) → world_of w ≡ world_of h.world
     → length w.threads ≡ length h.world.threads → GoesOn h (past_of w j h.limit)
@@ -245,6 +255,10 @@ none_there w t to (suc n) is = absurd (omega (arith, is))
 pub lands_none : (w : World) (t : ℕ) (to : Landing) (n : ℕ) → MayLand w t to n → NoneLeads w n (landed w t to n)
 lands_none w t (landings.Whole to) n may = none_there w t to n
 lands_none w t (landings.Top top) n may = λ is. absurd (omega (arith, is, may.0))
+
+pub none_added : (schedule : List ℕ) (t n : ℕ) → n ≡ 0 → schedule ≡ schedule ++ replicate n t
+none_added schedule t zero is = sym (append-nil schedule)
+none_added schedule t (suc n) is = absurd (omega (arith, is))
 
 -- a commit that counts
 counts : (P : Tables) (old : Past) (t : ℕ) (s : Reach) (a : Commit) (new : Past) → steps_of old < old.limit

@@ -35,6 +35,10 @@ prints_sent ps i n place none = (i, place.0, omega (arith, none))
 pub place_within : (ps : List Print) (i n : ℕ) → IsPlace ps i n → sent_of ps i n ≤ length (text_of ps)
 place_within ps i n place = omega (arith, place.1, text_lengths ps i)
 
+-- behind all prints
+pub last_place : (ps : List Print) → IsPlace ps (length ps) 0
+last_place ps = (omega arith, omega arith)
+
 pub all_sent : (ps : List Print) → sent_of ps (length ps) 0 ≡ length (text_of ps)
 all_sent ps = let whole = ap (λ (all : List Print). length (text_of all)) (take-length ps) in omega (arith, whole)
 
@@ -84,6 +88,26 @@ appends_then (Some xs) (Some ys) None first second a b = absurd b
 appends_then (Some xs) (Some ys) (Some zs) first second a b =
     b ∙ (ap (λ (r : List ℕ). r ++ second) a ∙ append_assoc xs first second)
 
+pub sends_none : (text : List ℕ) (n : ℕ) (got : Option (List ℕ)) → n ≤ length text → SendsOn text n n got got
+sends_none text n got h = record {
+  piece = [];
+  sent = appends_none got;
+  joins = sym (append-nil (take n text));
+  forth = omega arith;
+  within = h;
+}
+
+pub sends_then : (text : List ℕ) (a b c : ℕ) (x y z : Option (List ℕ)) → SendsOn text a b x y → SendsOn text b c y z
+    → SendsOn text a c x z
+sends_then text a b c x y z first second = record {
+  piece = first.piece ++ second.piece;
+  sent = appends_then x y z first.piece second.piece first.sent second.sent;
+  joins = second.joins
+      ∙ (ap (λ r. r ++ second.piece) first.joins ∙ append_assoc (take a text) first.piece second.piece);
+  forth = omega (arith, first.forth, second.forth);
+  within = second.within;
+}
+
 -- some more bytes of what comes behind the first prints
 pub rest_sent : (ps : List Print) (i at n : ℕ) (rest : List ℕ) (before after : Option (List ℕ)) → IsPlace ps i at
     → rest ≡ drop at (text_of (drop i ps)) → n ≤ length rest → Appends before after (take n rest)
@@ -104,6 +128,12 @@ rest_sent ps i at n rest before after place is few sent =
       forth = omega arith;
       within = omega (arith, place.1, few, ap length is, length-drop at t, text_lengths ps i);
     }
+
+-- and how many there are then
+pub rest_within : (ps : List Print) (i at n : ℕ) (rest : List ℕ) → IsPlace ps i at
+    → rest ≡ drop at (text_of (drop i ps)) → n ≤ length rest → IsPlace ps i (at + n)
+rest_within ps i at n rest place is few =
+    (place.0, omega (arith, place.1, few, ap length is, length-drop at (text_of (drop i ps))))
 
 -- all of it
 pub rest_whole : (ps : List Print) (i at n : ℕ) (rest : List ℕ) → IsPlace ps i at
@@ -129,6 +159,15 @@ grown : (got after : Option (List ℕ)) (xs more : List ℕ) → got ≡ Some xs
 grown None after xs more e h = absurd cc
 grown (Some ys) None xs more e h = absurd h
 grown (Some ys) (Some zs) xs more e h = ap Some (h ∙ ap (λ r. r ++ more) (same_bytes ys xs e))
+
+pub holds_more : (before got after : Option (List ℕ)) (text : List ℕ) (from to : ℕ)
+    → Holds before got (take from text) → SendsOn text from to got after → Holds before after (take to text)
+holds_more before got after text from to h sends bs is =
+    grown got after (bs ++ take from text) sends.piece (h bs is) sends.sent
+    ∙ ap Some (append_assoc bs (take from text) sends.piece ∙ ap (λ r. bs ++ r) (sym sends.joins))
+
+pub holds_nothing : (before got : Option (List ℕ)) (text : List ℕ) → got ≡ before → Holds before got (take 0 text)
+holds_nothing before got text same bs is = same ∙ (is ∙ ap Some (sym (append-nil bs)))
 
 -- ---- what went out of prints to which more come
 

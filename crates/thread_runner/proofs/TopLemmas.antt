@@ -1,5 +1,5 @@
 -- Frames that are put on callers and taken off again.
-use Rattle.std.proofs.Common.{◌≡◌, ℕ, zero, suc, ◌+◌, ◌++◌, List, [], ◌∷◌, Some, refl, sym, ap, ◌∙◌}
+use Rattle.std.proofs.Common.{◌≡◌, ℕ, zero, suc, ◌+◌, ◌++◌, List, [], ◌∷◌, Some, None, refl, sym, ap, ◌∙◌}
 use Rattle.std.proofs.Common.{arith, drop, append_assoc, slice_get, Ok, Err}
 use Rattle.std.specs.Prelude.{reverse}
 use Rattle.std.proofs.lemmas.List.{reverse-append}
@@ -24,6 +24,10 @@ callers_drop (suc i) (x ∷ xs) =
 pub popped : (xs : List Frame) (f : Frame) → Some f ≡ first_frame xs → xs ≡ f ∷ callers_of xs
 popped [] f h = absurd cc
 popped (x ∷ xs) f h = let e : x ≡ f = cc in ap (λ y. y ∷ xs) e
+
+pub none_popped : (xs : List Frame) → None ≡ first_frame xs → xs ≡ []
+none_popped [] h = refl
+none_popped (x ∷ xs) h = absurd cc
 
 -- one more goes from a list to the other
 pub turns_one : (f : Frame) (xs ys : List Frame) → reverse xs ++ (f ∷ ys) ≡ reverse (f ∷ xs) ++ ys

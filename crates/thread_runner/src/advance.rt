@@ -76,7 +76,7 @@ pub(crate) fn advance(
     }
 }
 
-/// How many steps there were, with `count` of a stretch before a turn.
+/// How many steps there were, with so many of a stretch before a turn.
 pub(crate) fn counted(turn: Turn, count: u64) -> u64
     requires { count ≤ 1023 }
     ensures { result ≡ counted turn count }

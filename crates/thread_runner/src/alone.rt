@@ -24,7 +24,7 @@ pub(crate) const STEPS: u64 = 50_000;
 /// After how many bytes of text these go out.
 pub(crate) const BYTES: u64 = 65_536;
 
-/// Where a run of at most `limit` steps ends: after the start of its thread and 1,024 steps at a time.
+/// Where a run ends that may have so many steps: after the start of its thread and 1,024 steps at a time.
 fn most_steps(limit: u64) -> u64
     requires { limit ≤ 2 ^ 62 }
     ensures least { limit ≤ result }
@@ -72,7 +72,7 @@ pub(crate) fn run_alone<S: Sink>(
     }
 }
 
-/// The answer of a run by turns that is over.
+/// What is answered where turns are over.
 fn end_of_turns(alloc: Global, program: &Program, turning: Turning) -> Result<Ended, RunFault>
     ensures { (first : DefinedWorld) (limit most : ℕ) → HasTurned (program_of program.now) first most true turning
         → limit ≤ most → most < limit + 1024
@@ -84,7 +84,7 @@ fn end_of_turns(alloc: Global, program: &Program, turning: Turning) -> Result<En
     }
 }
 
-/// The answer of turns that came to a world by a journal.
+/// What is answered where turns came to a world by a journal.
 fn end_of_world(
     alloc: Global,
     program: &Program,

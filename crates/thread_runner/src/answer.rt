@@ -1,4 +1,4 @@
-//! The answer of a run of threads.
+//! What a run of threads answers.
 
 ghost use Rattle.std.specs.Prelude.{◌≡◌, IfOk};
 ghost use Rattle.semantics.specs.Worlds.{seen};
@@ -22,7 +22,7 @@ pub enum RunFault {
     Memory,
     /// A thread could not be started.
     Spawn,
-    /// The sink failed, after this many bytes of what was printed.
+    /// The sink failed, after so many bytes of what was printed.
     Device(u128),
     /// The journal has as many steps as it may, and a thread still has a step.
     Limit(Ended),

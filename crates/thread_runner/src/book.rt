@@ -33,7 +33,7 @@ use vm_state::initialization::Frames;
 #[derive(Drop)]
 pub struct Book<O: Origin> {
     history: History<O>,
-    /// How many prints have gone out whole, and how many bytes of those behind them.
+    /// So many prints have gone out, and so many bytes of those behind them.
     prints: usize,
     bytes: usize,
 }
@@ -223,8 +223,8 @@ impl<O: Origin> Book<O> {
         self.history.room()
     }
 
-    /// Runs one thread on in the world itself, as long as it has a step, there were fewer than `steps`, and they
-    /// printed fewer than `bytes` bytes. It answers how many there were.
+    /// Runs one thread on in the world itself, as long as it has a step, there were fewer than so many, and they
+    /// printed fewer than so many bytes. It answers how many there were.
     ///
     /// # Errors
     /// `AllocError` where memory is refused.

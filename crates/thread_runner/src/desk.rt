@@ -1,4 +1,4 @@
-//! The desk of a run of threads: what lies under its lock.
+//! What lies under the lock of a run of threads.
 
 ghost use Rattle.std.specs.Prelude.{◌≡◌, ◌≢◌, ◌<◌, ◌≤◌, ◌++◌, ℕ, List, Some, None, true, false, IfSome, IfOk};
 ghost use Rattle.std.specs.Prelude.{length, take};
@@ -130,7 +130,7 @@ impl<O: Session, S: Sink> Desk<O, S> {
         self.sleepers > 0
     }
 
-    /// Whether the run goes on and no commit has moved a thread since there were `moves` such commits.
+    /// Whether the run goes on and no commit has moved a thread since there were so many.
     pub(crate) fn is_same(&self, moves: u64) -> bool {
         !self.over && self.moves == moves
     }
@@ -271,7 +271,7 @@ impl<O: Session, S: Sink> Desk<O, S> {
         None
     }
 
-    /// The answer of a run whose threads were joined, and its sink.
+    /// What a run answers once its threads were joined, and its sink.
     ///
     /// # Errors
     /// The desk, where the run goes on.
@@ -385,7 +385,7 @@ fn end_of<O: Origin>(alloc: Global, book: Book<O>) -> Result<Ended, AllocError>
     end_with(alloc, world, Journal::of(runs))
 }
 
-/// The answer of a run by its book alone, where it is over and its world stands so.
+/// What a run answers by its book alone, where it is over and its world stands so.
 fn verdict_of<O: Origin>(alloc: Global, book: Book<O>, rest: Rest) -> Result<Ended, RunFault>
     requires rest { IsRest (program_of O.program) (world_of book.past.world) rest }
     requires full { rest ≡ Going → book.past.limit ≤ steps_of book.past }

@@ -1,4 +1,4 @@
-//! The gate that threads ask before and after each stretch.
+//! What threads ask before and after each stretch.
 
 /// Asked by each thread before and after each stretch, outside the lock. `who` is the thread, and `job` the number of
 /// its commits so far that answered `Moved`.

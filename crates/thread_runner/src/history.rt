@@ -28,7 +28,7 @@ use std::alloc::{AllocError, Global};
 use std::marker::{Model, PhantomData};
 use vm_state::initialization::Frames;
 
-/// The answer to a commit.
+/// What a commit answers.
 #[derive(Clone, Copy, Debug)]
 pub enum Commit {
     /// The journal has as many steps as it may. Nothing changes.
@@ -66,7 +66,7 @@ impl<O: Origin> Model for History<O> {
         × IsKept O.program O.start (record { world = h.world; journal = h.journal.items; limit = h.limit }) };
 }
 
-/// The answer to a commit of `count` steps of a stretch and then this turn.
+/// What is answered after so many steps of a stretch and a turn.
 fn answer_of(turn: Turn, count: u64) -> Commit
     ensures { result ≡ answered turn count }
 {
@@ -83,7 +83,7 @@ fn answer_of(turn: Turn, count: u64) -> Commit
     }
 }
 
-/// Adds steps of a thread to runs that have room for one more, and nothing where there are none.
+/// Adds so many steps of a thread to runs that have room for one more, and nothing where there are none.
 pub(crate) fn add_some(runs: &mut Vec<(u32, u64)>, thread: u32, steps: u64)
     requires room { vec_len runs.old < vec_capacity runs.old }
     requires runs { AreRuns runs.old.items }
@@ -168,7 +168,7 @@ impl<O: Origin> History<O> {
         all_done(&self.world, stretch.done())
     }
 
-    /// Counts `count` steps that lead a thread to where it lands, and one more where there is one.
+    /// Counts so many steps that lead a thread to where it lands, and one more where there is one.
     ///
     /// # Errors
     /// `AllocError` where memory is refused; nothing has changed then.
@@ -327,8 +327,8 @@ impl<O: Origin> History<O> {
         self.limit.saturating_sub(self.steps)
     }
 
-    /// Runs one thread on in the world itself, as long as it has a step, there were fewer than `steps`, and they
-    /// printed fewer than `bytes` bytes. It answers how many there were.
+    /// Runs one thread on in the world itself, as long as it has a step, there were fewer than so many, and they
+    /// printed fewer than so many bytes. It answers how many there were.
     ///
     /// # Errors
     /// `AllocError` where memory is refused.

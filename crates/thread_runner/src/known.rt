@@ -2,7 +2,7 @@
 
 use crate::done_set::DoneSet;
 
-/// A set of classes is asked for anew after one commit for each 64 given classes.
+/// A set of classes is asked for anew after one commit for so many given classes.
 const SHARE: u32 = 64;
 
 /// Classes that a thread knows to be initialized, and for how many commits it does with them.
@@ -26,7 +26,7 @@ impl Known {
         self.left == 0
     }
 
-    /// Takes those that were asked for, if they were, of all given classes; else there was one commit more.
+    /// Takes those that were asked for, if they were, of so many given classes; else there was one commit more.
     pub(crate) fn renew(&mut self, asked: Option<DoneSet>, given: u32) {
         match asked {
             Some(done) => {

@@ -18,8 +18,8 @@ use program::Program;
 use sinks::Sink;
 use std::alloc::{AllocError, Global};
 
-/// Runs one thread on in a world, as long as it has a step, there were fewer than `steps`, and they printed fewer than
-/// `bytes` bytes, and writes them into a journal. It answers how many there were.
+/// Runs one thread on in a world, as long as it has a step, there were fewer than so many, and they printed fewer than
+/// so many bytes, and writes them into a journal. It answers how many there were.
 ///
 /// # Errors
 /// `AllocError` where memory is refused; the thread may have lost its frames then.
@@ -139,8 +139,8 @@ impl<O: Session, S: Sink> Desk<O, S> {
         Ok(desk)
     }
 
-    /// A slice of at most `most` steps of a thread that goes on alone, and what they printed into the sink. It answers
-    /// how many there were.
+    /// A slice of the steps of a thread that goes on alone, at most so many, and what they printed into the sink. It
+    /// answers how many there were.
     ///
     /// # Errors
     /// The sink, where memory is refused.

@@ -1,4 +1,4 @@
-//! Laws of replays. The bodies are empty: each contract is a theorem.
+//! What holds of replays. The bodies are empty: each contract is a theorem.
 
 ghost use Rattle.std.specs.Prelude.{ℕ, List};
 ghost use Rattle.semantics.specs.Programs.{Program};

@@ -29,7 +29,7 @@ impl From<AllocError> for ReplayFault {
     }
 }
 
-/// Takes `steps` steps of a thread. It answers whether it had them all.
+/// Takes so many steps of a thread. It answers whether there were so many.
 fn take_steps(
     alloc: Global,
     program: &Program,
@@ -55,7 +55,7 @@ fn take_steps(
     Ok(true)
 }
 
-/// Takes the steps of a run, where its thread is there. It answers whether it had them all.
+/// Takes the steps of a run, where its thread is there. It answers whether there were so many.
 fn take_run(
     alloc: Global,
     program: &Program,

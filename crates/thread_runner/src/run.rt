@@ -19,7 +19,7 @@ use std::sync::{Condvar, Mutex, Wait};
 use std::thread;
 use std::thread::Threads;
 
-/// Runs `count` threads to their end, and answers whether all could be started.
+/// Runs so many threads to their end, and answers whether all could be started.
 fn run_all<O: Session + Send + Sync, S: Sink + Send, G: Gate, R: Threads + Wait + Sync>(
     rt: &R,
     alloc: Global,

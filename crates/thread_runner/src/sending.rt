@@ -1,4 +1,4 @@
-//! Sending what was printed to a sink.
+//! What was printed is sent to a sink.
 
 ghost use Rattle.std.specs.Prelude.{◌≡◌, ◌≢◌, ◌<◌, ◌≤◌, ◌^◌, true, false, length, take};
 ghost use Rattle.vm_state.specs.Output.{text_of};

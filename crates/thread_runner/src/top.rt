@@ -26,7 +26,7 @@ struct Under {
     above: u64,
 }
 
-/// Takes the `count` innermost callers away.
+/// Takes so many of the innermost callers away.
 fn drop_callers(callers: &mut FrameList, count: u64)
     ensures { callers.new ≡ drop count callers.old }
 {
@@ -63,7 +63,7 @@ fn turned(alloc: Global, frames: FrameList) -> Result<FrameList, AllocError>
     Ok(turned)
 }
 
-/// Puts one of some frames on, after `count`. It answers how many they are then, or none where memory is refused;
+/// Puts one of some frames on, after so many. It answers how many they are then, or none where memory is refused;
 /// nothing has changed then.
 fn put_next(callers: &mut FrameList, frame: Frame, count: u64) -> Option<u64>
     ensures { MatchOption result (callers.new ≡ callers.old)

@@ -74,10 +74,9 @@ fn look<O: Session, S: Sink, R: Wait>(
     desk.lock(rt).look(alloc, program, thread, asks)
 }
 
-/// Commits a stretch, if there is one, and answers whether the thread has moved or leaves, and what it takes along if
-/// it goes on: the lock is taken once for both. A thread that waits sleeps until another one has moved or the run is
-/// over, and whoever moves or ends it wakes those that sleep, if there are any: to wake nobody is a call of the system,
-/// too.
+/// Commits a stretch, if there is one, and answers whether the thread has moved or leaves, and what it takes along if it
+/// goes on: the lock is taken once for both. A thread that waits sleeps until another one has moved or the run is over,
+/// and whoever moves or ends it wakes those that sleep, if there are any: to wake nobody is a call of the system, too.
 fn settle<O: Session, S: Sink, R: Wait>(
     rt: &R,
     alloc: Global,

@@ -8,7 +8,6 @@ pub mod ObjectLemmas
 pub mod SlotLemmas
 pub mod HeldCountLemmas
 pub mod VariableLemmas
-pub mod CellLemmas
 pub mod OutputLemmas
 pub mod ElementLemmas
 pub mod OwnerLemmas

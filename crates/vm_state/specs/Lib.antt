@@ -3,8 +3,6 @@ pub mod Operands
 pub mod Locals
 pub mod Arguments
 pub mod Variables
-pub mod Cells
-pub mod Frames
 pub mod Statics
 pub mod Segments
 pub mod Stacks

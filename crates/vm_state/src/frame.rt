@@ -4,8 +4,9 @@ ghost use Rattle.std.specs.Prelude.{◌≡◌, ◌∷◌, [], IfOk, IfErr, OnOk,
 ghost use Rattle.vm_state.specs.Segments.{frames_in, first_frame, callers_of};
 ghost use Rattle.vm_state.specs.Operands.{dropped};
 
-use crate::cells::Cells;
 use crate::items::{CopiedItem, Item, copy_items, same_items};
+use crate::locals::Locals;
+use crate::operands::Operands;
 use std::alloc::{AllocError, Global};
 use std::marker::Model;
 use std::mem;
@@ -19,26 +20,14 @@ pub enum Activity {
     Method { class: u32, index: u16 },
 }
 
-/// The frame of one call. A contract sees its local variables and its operands beside the others.
+/// The frame of one call.
 #[derive(Drop)]
 pub struct Frame {
     pub activity: Activity,
     /// The place of the next instruction in the method's body, from 0.
     pub place: u32,
-    pub cells: Cells,
-}
-
-impl Model for Frame {
-    ghost use Rattle.vm_state.specs.Frames.{FrameState};
-
-    ghost Value = { FrameState };
-
-    ghost view = { λ s. record {
-      activity = s.activity;
-      place = s.place;
-      locals = s.cells.locals;
-      operands = s.cells.operands;
-    } };
+    pub locals: Locals,
+    pub operands: Operands,
 }
 
 /// Whether two frames are for the same.
@@ -68,7 +57,8 @@ impl Frame {
     {
         self.place == other.place
             && same_activity(self.activity, other.activity)
-            && self.cells.is_same(&other.cells)
+            && self.locals.is_same(&other.locals)
+            && self.operands.is_same(&other.operands)
     }
 
     /// The same once more.
@@ -78,12 +68,16 @@ impl Frame {
     pub fn copy(&self, alloc: Global) -> Result<Frame, AllocError>
         ensures { IfOk result (λ f. f ≡ self.now) }
     {
-        let cells = self.cells.copy(alloc)?;
-        Ok(Frame {
-            activity: self.activity,
-            place: self.place,
-            cells,
-        })
+        let locals = self.locals.copy(alloc)?;
+        match self.operands.copy(alloc) {
+            Ok(operands) => Ok(Frame {
+                activity: self.activity,
+                place: self.place,
+                locals,
+                operands,
+            }),
+            Err(error) => Err(error),
+        }
     }
 }
 
@@ -175,7 +169,7 @@ impl FrameList {
             return Err(frame);
         }
         let mut caller = frame;
-        caller.cells.drop_many(dropped_count);
+        caller.operands.drop_many(dropped_count);
         self.frames.push_reserved(caller);
         Ok(())
     }

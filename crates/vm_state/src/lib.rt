@@ -2,7 +2,6 @@
 //! frames, initializations, and what all threads share.
 #![tactic(auto)]
 
-pub mod cells;
 pub mod classes;
 mod elements;
 pub mod ends;
@@ -11,7 +10,9 @@ pub mod heap;
 pub mod initialization;
 mod items;
 pub mod kept;
+pub mod locals;
 pub mod object;
+pub mod operands;
 pub mod output;
 mod owners;
 pub mod packing;
@@ -19,4 +20,3 @@ pub mod shared;
 pub mod spares;
 pub mod text;
 pub mod value;
-pub mod variable;

@@ -1,17 +1,15 @@
 //! Memory of frames that have ended, which later frames use again.
 
-use crate::cells::Cells;
 use crate::frame::Frame;
+use crate::locals::Locals;
+use crate::operands::Operands;
 use std::alloc::Global;
 use std::marker::Model;
 
-/// How many are kept at most: more than most programs have frames above one another, and few beside a deep recursion.
-const MOST: usize = 256;
-
-/// Memory of frames that have ended, which later frames use again. A contract sees nothing of it.
+/// Frames that have ended, whose memory later frames use again. A contract sees nothing of them.
 #[derive(Drop)]
 pub struct Spares {
-    cells: Vec<Cells>,
+    frames: Vec<Frame>,
 }
 
 impl Model for Spares {
@@ -24,22 +22,22 @@ impl Spares {
     /// None.
     pub fn none(alloc: Global) -> Spares {
         Spares {
-            cells: Vec::new(alloc),
+            frames: Vec::new(alloc),
         }
     }
 
-    /// Keeps the memory of a frame that has ended, where there is room for it.
+    /// Keeps a frame that has ended, where there is room for it.
     pub fn keep(&mut self, frame: Frame) {
-        if self.cells.len() < MOST && self.cells.reserve(1).is_ok() {
-            self.cells.push_reserved(frame.cells);
+        if self.frames.reserve(1).is_ok() {
+            self.frames.push_reserved(frame);
         }
     }
 
     /// The memory of a frame that was kept, or none yet, for the frame that comes.
-    pub fn take(&mut self, alloc: Global) -> Cells {
-        match self.cells.pop() {
-            Some(cells) => cells,
-            None => Cells::none(alloc),
+    pub fn take(&mut self, alloc: Global) -> (Locals, Operands) {
+        match self.frames.pop() {
+            Some(frame) => (frame.locals, frame.operands),
+            None => (Locals::none(alloc), Operands::none(alloc)),
         }
     }
 }

@@ -4,9 +4,9 @@ ghost use Rattle.std.specs.Prelude.{IfOk};
 
 use crate::programs::{BUDGET, program_of, sixty_four, value_of, verdicts_of, wave_of};
 use evaluator::outcome::Outcome;
-use evaluator::regions::Regions;
 use evaluator::settling::settle;
 use program::Program;
+use region_shape::regions::Regions;
 use std::alloc::{AllocError, Global};
 use std::process::Abort;
 use std::rt::Clock;

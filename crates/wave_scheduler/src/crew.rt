@@ -2,7 +2,7 @@
 
 ghost use Rattle.std.specs.Prelude.{◌≡◌, ◌≤◌};
 ghost use Rattle.machine.specs.Linked.{program_of};
-ghost use Rattle.evaluator.specs.Regions.{environment_of};
+ghost use Rattle.region_shape.specs.Regions.{environment_of};
 ghost use Rattle.evaluator.specs.Outcomes.{IsUnbarred};
 ghost use Rattle.wave_scheduler.specs.steps.Crews.{CanRunWave};
 
@@ -11,13 +11,13 @@ use crate::lent::Lent;
 use crate::results::{Done, Results};
 use crate::tainted::{Tainted, told};
 use crate::wave::Wave;
-use evaluator::regions::Regions;
+use region_shape::regions::Regions;
 use std::alloc::{AllocError, Global};
 use std::sync::{Mutex, Wait};
 use std::thread;
 use std::thread::Threads;
 
-/// The results of the classes of a wave, by as many workers as the number of their caller: of those that depend on no
+/// What came of the classes of a wave, by as many workers as the number of their caller: of those that depend on no
 /// class that is not accepted, and maybe not of all. One worker alone works on this thread.
 ///
 /// # Errors
@@ -49,7 +49,7 @@ pub(crate) fn results_of<W: Lent + Send + Sync, G: Gate, R: Threads + Wait + Syn
     Ok(results)
 }
 
-/// How many of the workers a wave of `count` classes gets: one for each class at most.
+/// How many of the workers a wave of so many classes gets: one for each class at most.
 fn crew_of(workers: u32, count: usize) -> u32
     ensures { result ≤ workers }
 {
@@ -60,7 +60,7 @@ fn crew_of(workers: u32, count: usize) -> u32
     }
 }
 
-/// Has a crew of workers settle the classes of a wave, joins them all, and answers what they moved back.
+/// Has a crew of so many workers settle the classes of a wave, joins them all, and answers what they moved back.
 fn gather<W: Lent + Send + Sync, G: Gate, R: Threads + Wait + Sync>(
     rt: &R,
     alloc: Global,

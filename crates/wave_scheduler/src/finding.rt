@@ -1,8 +1,8 @@
-//! The outcome of one class in its wave.
+//! What becomes of one class in its wave.
 
 ghost use Rattle.std.specs.Prelude.{◌≡◌, ◌<◌, ◌⊎◌, length, slice_set, option_map, None, IfOk, OnOk};
 ghost use Rattle.machine.specs.Linked.{program_of};
-ghost use Rattle.evaluator.specs.Regions.{region_of, region_in, environment_of};
+ghost use Rattle.region_shape.specs.Regions.{region_of, region_in, environment_of};
 ghost use Rattle.evaluator.specs.Outcomes.{IsOutcome, IsUnbarred, reason_of as why_of};
 ghost use Rattle.wave_scheduler.specs.Settled.{Stopped};
 ghost use Rattle.wave_scheduler.specs.Outcomes.{outcome_of, settled_of};
@@ -14,12 +14,12 @@ use crate::outcome::Settled;
 use crate::results::Done;
 use crate::wave::Wave;
 use evaluator::outcome::{Outcome, Refusal};
-use evaluator::regions::{Region, Regions};
 use evaluator::settling::settle;
 use initializer_analysis::verdict::{Reason, Verdict};
+use region_shape::regions::{Region, Regions};
 use std::alloc::{AllocError, Global};
 
-/// The verdict on a class, with its region.
+/// What was found of a class.
 #[derive(Drop)]
 struct Found {
     verdict: Verdict,
@@ -39,7 +39,7 @@ fn reason_of(refusal: Refusal) -> Reason
     }
 }
 
-/// The verdict on a class of this outcome in a wave, with its region.
+/// What was found of a class of this outcome, in a wave.
 fn found_of(outcome: Outcome, wave: usize) -> Found
     ensures { IsFoundOf wave outcome (outcome_of result.verdict) (option_map region_of result.region) }
 {
@@ -55,7 +55,7 @@ fn found_of(outcome: Outcome, wave: usize) -> Found
     }
 }
 
-/// The outcome of a class, or else that of its initializer if it is run now.
+/// What came of a class, or else what its initializer does if it is run now.
 fn outcome_now<W: Lent, G: Gate>(
     alloc: Global,
     wave: Wave<'_>,

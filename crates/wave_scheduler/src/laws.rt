@@ -1,4 +1,4 @@
-//! Laws of settled classes.
+//! What holds of settled classes.
 
 ghost use Rattle.wave_scheduler.specs.Laws.{OneSettled, HasSettled, SettledAreExact, HasAnalysis, SettledShowTheSame};
 ghost use Rattle.wave_scheduler.specs.Laws.{NeverBarred, MoreAtHand};

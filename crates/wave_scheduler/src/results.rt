@@ -1,8 +1,8 @@
-//! The results of a wave's classes, moved back by the workers that ran them.
+//! What came of a wave's classes, moved back by the workers that ran them.
 
 ghost use Rattle.std.specs.Prelude.{◌≡◌, IfSome};
 ghost use Rattle.machine.specs.Linked.{program_of};
-ghost use Rattle.evaluator.specs.Regions.{environment_of};
+ghost use Rattle.region_shape.specs.Regions.{environment_of};
 ghost use Rattle.evaluator.specs.Outcomes.{IsOutcome};
 
 use crate::lent::Lent;
@@ -10,7 +10,7 @@ use evaluator::outcome::Outcome;
 use std::alloc::{AllocError, Global};
 use std::marker::{Model, PhantomData};
 
-/// The outcome of a class, with what its wave was lent. Contracts see the class and its outcome.
+/// What became of a class with what its wave was lent. Contracts see the class and its outcome.
 #[derive(Drop)]
 pub(crate) struct Done<W: Lent> {
     /// Where the class stands in the row of its wave.
@@ -23,7 +23,7 @@ pub(crate) struct Done<W: Lent> {
 impl<W: Lent> Model for Done<W> {
     ghost use Rattle.std.specs.Prelude.{ℕ};
     ghost use Rattle.machine.specs.Linked.{program_of};
-    ghost use Rattle.evaluator.specs.Regions.{environment_of};
+    ghost use Rattle.region_shape.specs.Regions.{environment_of};
     ghost use Rattle.evaluator.specs.Outcomes.{IsOutcome};
     ghost use Rattle.evaluator.specs.declared.outcome.Outcome.{Outcome as Held};
 
@@ -47,7 +47,7 @@ impl<W: Lent> Done<W> {
         }
     }
 
-    /// The outcome, if it is that of this class.
+    /// What became of a class, if it is of this one.
     pub(crate) fn outcome_of(self, class: u32) -> Option<Outcome>
         ensures { IfSome result (λ outcome. IsOutcome (program_of W.program) (environment_of W.regions) class W.budget
             outcome) }
@@ -60,7 +60,7 @@ impl<W: Lent> Done<W> {
     }
 }
 
-/// The results that were moved back, at the places of the row of a wave.
+/// What was moved back, at the places of the row of a wave.
 #[derive(Drop)]
 pub(crate) struct Results<W: Lent> {
     slots: Vec<Option<Done<W>>>,

@@ -1,4 +1,4 @@
-//! The outcomes of all classes, in the end.
+//! What becomes of all classes, in the end.
 //!
 //! Each function makes one part and hands it to the next at once: one that held several parts where a call can fail
 //! would be dear to prove.
@@ -109,7 +109,7 @@ pub fn settle_all_here(
 /// The most workers.
 const MOST_WORKERS: u32 = 64;
 
-/// Whether there may be this many workers.
+/// Whether there may be so many workers.
 pub fn can_work(workers: u32) -> bool
     ensures { IsTrue result ↔ CanWork workers }
 {

@@ -15,7 +15,7 @@ use program::Program;
 use std::alloc::{AllocError, Global};
 use use_graph::UseGraph;
 
-/// The vertices that depend on classes that are not accepted. All searches for them look at each edge once in all.
+/// What depends on classes that are not accepted. All searches for it together look at each vertex and edge once.
 #[derive(Drop)]
 pub(crate) struct Tainted {
     /// From each method and class to what depends on it.
@@ -44,7 +44,7 @@ fn add_reached(graph: &Graph, vertex: usize, seen: &mut Visited) -> Result<(), A
     Ok(())
 }
 
-/// The graph of dependence turned round: from each class and method to those that depend on it.
+/// What classes and methods depend on, turned round: from each of them to what depends on it.
 fn dependents_of(alloc: Global, program: &Program, uses: &UseGraph) -> Result<Graph, AllocError>
     requires { IsUseGraph program.now uses.now }
     ensures { IfOk result (AreDependents program.now uses.now) }
@@ -120,7 +120,7 @@ impl Tainted {
         Ok(())
     }
 
-    /// What depends on the classes that are not accepted, over a graph whose vertices of classes begin at `first`.
+    /// What depends on the classes that are not accepted, over a graph and from this first class's vertex on.
     fn over(
         alloc: Global,
         dependents: Graph,

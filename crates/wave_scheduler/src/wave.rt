@@ -1,15 +1,15 @@
-//! The terms on which the classes of a wave are settled.
+//! What the classes of a wave are settled with.
 
 use initializer_analysis::verdict::Verdict;
 use program::Program;
 
-/// The terms on which the classes of all waves are settled.
+/// What the classes of all waves are settled with.
 #[derive(Clone, Copy)]
 pub(crate) struct Terms<'a> {
     pub program: &'a Program,
     /// The verdicts on all classes, before any initializer runs.
     pub verdicts: &'a [Verdict],
-    /// The most that the initializer of each class may cost.
+    /// What the initializer of each class may cost.
     pub budget: u64,
 }
 

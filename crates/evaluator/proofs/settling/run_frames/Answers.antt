@@ -2,7 +2,7 @@ use Rattle.std.proofs.Common.{◌-◌, ◌≤◌, suc, refl, sym, arith}
 use Rattle.machine.specs.Linked.{program_of}
 use Rattle.semantics.specs.Alone.{Unpaid}
 use Rattle.vm_state.specs.Segments.{frames_of}
-use Rattle.evaluator.specs.Regions.{region_of, environment_of}
+use Rattle.region_shape.specs.Regions.{region_of, environment_of}
 use Rattle.evaluator.proofs.DeskLemmas.{begins_there}
 use Rattle.evaluator.proofs.TurnsLemmas.{further, stops_further, goes_over, goes_further}
 use Rattle.evaluator.proofs.settling.run_frames.Goals as goal

@@ -2,7 +2,7 @@ use Rattle.std.proofs.Common.{◌≤◌}
 use Rattle.vm_state.specs.Segments.{frames_of}
 use Rattle.courses.specs.steps.StepTables.{KeepsSteps}
 use Rattle.machine.specs.Linked.{program_of}
-use Rattle.evaluator.specs.Regions.{region_of, environment_of}
+use Rattle.region_shape.specs.Regions.{region_of, environment_of}
 use Rattle.evaluator.specs.steps.Desks.{IsAlone}
 use Rattle.evaluator.specs.steps.Turns.{GoesOn}
 use Rattle.evaluator.proofs.settling.run_frames.Given as goal

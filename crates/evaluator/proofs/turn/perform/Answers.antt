@@ -1,7 +1,7 @@
 use Rattle.std.proofs.Common.{[], arith}
 use Rattle.machine.specs.Linked.{program_of}
 use Rattle.machine.specs.Table.{row}
-use Rattle.evaluator.specs.Regions.{region_of, environment_of}
+use Rattle.region_shape.specs.Regions.{region_of, environment_of}
 use Rattle.evaluator.specs.steps.Within.{within, capped}
 use Rattle.semantics.specs.Quiet.{quiet_step}
 use Rattle.evaluator.specs.steps.BuildTables.{build_of}

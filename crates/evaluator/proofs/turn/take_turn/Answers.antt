@@ -2,7 +2,7 @@ use Rattle.std.proofs.Common.{◌∙◌}
 use Rattle.machine.specs.Linked.{program_of}
 use Rattle.semantics.specs.Quiet.{quiet_step}
 use Rattle.evaluator.specs.Outcomes.{stop_of}
-use Rattle.evaluator.specs.Regions.{region_of, environment_of}
+use Rattle.region_shape.specs.Regions.{region_of, environment_of}
 use Rattle.evaluator.specs.steps.Builds.{stopped_build}
 use Rattle.evaluator.specs.steps.Within.{capped}
 use Rattle.evaluator.proofs.TurnsLemmas.{turn_stops, heard}

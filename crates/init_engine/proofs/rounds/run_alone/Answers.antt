@@ -40,15 +40,6 @@ ahead-preserved c =
           (rw c.in-Moved.is at c.in_ok-step.ensures.prints);
     }
 
-pub returns-clause-steps : goal.returns-clause-steps
-returns-clause-steps c =
-    elim c.ahead-test.branch [
-      | else-ahead-test w ↦ rw w.table-is c.ahead.invariant.keeps
-      | then-ahead-test+in_ok-count+then-left-eq0 w ↦ rw w.table-is w.in_ok-count.ensures.steps
-      | then-ahead-test+in_ok-count+else-left-eq0+in_ok-step+in-Waiting w ↦ rw w.table-is w.in_ok-count.ensures.steps
-      | then-ahead-test+in_ok-count+else-left-eq0+in_ok-step+in-Ended w ↦ rw w.table-is w.in_ok-count.ensures.steps
-    ]
-
 pub returns-clause-run : goal.returns-clause-run
 returns-clause-run c =
     let P = program_of c.args.program.now in

@@ -1,6 +1,6 @@
 use Rattle.std.proofs.Common.{◌≡◌, ap, sym, ◌∙◌, arith, refl, subst, inl, inr}
 use Rattle.journal.specs.Journals.JournalFails.{line}
-use Rattle.journal.proofs.ReadingLemmas.{read_none, read_more, no_line, line_fails, line_small}
+use Rattle.journal.proofs.ReadingLemmas.{read_none, read_more, no_line, line_fails, line_small, rest_smaller}
 use Rattle.journal.proofs.journal_text.read_lines.Goals as goal
 
 pub loop-rest-init : goal.loop-rest-init

@@ -1,5 +1,5 @@
 use Rattle.std.proofs.Common.{◌≡◌, ◌∙◌, sym, ap, refl}
-use Rattle.journal.proofs.LineLemmas.{no_space, no_end, no_run}
+use Rattle.journal.proofs.LineLemmas.{no_space, no_end, line_made, no_run}
 use Rattle.journal.proofs.line.first_line.Goals as goal
 
 pub returns-in_default-clause-none : goal.returns-in_default-clause-none

@@ -2,7 +2,7 @@ use Rattle.std.proofs.Common.{◌∙◌, [], ap}
 use Rattle.vm_state.specs.Segments.{frames_of}
 use Rattle.vm_state.specs.Shares.{empty_region, shared_of}
 use Rattle.courses.specs.Courses.{over}
-use Rattle.evaluator.specs.Regions.{region_of}
+use Rattle.region_shape.specs.Regions.{region_of}
 use Rattle.evaluator.proofs.DeskLemmas.{alone_with, alone_without, course_stays, region_with, went_ahead}
 use Rattle.evaluator.proofs.desk.Desk.run.Goals as goal
 
