@@ -38,8 +38,7 @@ use Rattle.image_parser.specs.AllRegions.{RegionsText, RegionsFail, IsShown, Reg
 use Rattle.image_parser.specs.FileFaults.{AreFiles, FilesFail}
 use Rattle.image_parser.specs.HeaderFaults.{IsFramed}
 use Rattle.image_parser.specs.ImageFaults.{of_files, of_link, of_regions, HasFiles, IsLinked, PartsText, PartsFail}
-use Rattle.image_parser.specs.ImageFaults.{PartsRead}
-use Rattle.image_parser.specs.ImageFaults.{ImageParts, ImageFails}
+use Rattle.image_parser.specs.ImageFaults.{PartsRead, ImageParts, ImageFails}
 use Rattle.image_parser.specs.ImageFaults.PartsFail.{files, link, regions}
 use Rattle.image_parser.specs.ImageFaults.ImageFails.{within}
 use Rattle.image_parser.specs.Regions.{Begins}
@@ -193,12 +192,6 @@ some_text versions.One bytes family all held text shown =
 some_text versions.Two bytes family all held text shown =
     let P : List (Option ImageRegion) → Type 0 = λ z. VersionText versions.Two bytes family z in
     inl (subst P (sym shown) text)
-
-pub shown_fits : (version : Version) (family : Family) (all held : List (Option ImageRegion))
-    → AreRegions version family all → IsShown version all held → AreRegions versions.Two family held
-shown_fits versions.One family all held fits shown = dropped_fits family all held fits shown
-shown_fits versions.Two family all held fits shown =
-    let P : List (Option ImageRegion) → Type 0 = λ z. AreRegions versions.Two family z in subst P (sym shown) fits
 
 pub some_fits : (bytes : List ℕ) (family : Family) (held : List (Option ImageRegion)) → SomeText bytes family held
     → AreRegions versions.Two family held

@@ -2,12 +2,12 @@
 use Rattle.std.proofs.Common.{◌≡◌, ◌≢◌, ◌∙◌, ◌⊎◌, inl, inr, ℕ, zero, suc, ◌+◌, ◌<◌, ◌≤◌, ◌==◌}
 use Rattle.std.proofs.Common.{true, false}
 use Rattle.std.proofs.Common.{List, [], ◌∷◌, ◌++◌, length, map, take, get_or, Option, Some, None, slice_get, option_map}
-use Rattle.std.proofs.Common.{Result, Ok, Err, IfOk, refl, sym, ap, subst, arith, append_assoc, append-nil, eqb-true}
+use Rattle.std.proofs.Common.{Result, Ok, Err, IfOk, refl, sym, ap, subst, arith, append_assoc, eqb-true}
 use Rattle.std.proofs.Common.{eq-eqb}
 use Rattle.std.proofs.Math.Path.{fun_ext}
 use Rattle.std.proofs.Math.Seq.{get_or-append_seam}
 use Rattle.std.specs.List.{All, AllZip}
-use Rattle.std.proofs.lemmas.List.{take_more, length-take-le, get_or_past}
+use Rattle.std.proofs.lemmas.List.{take_more, length-take-le}
 use Rattle.std.proofs.lemmas.List.Elements.{All-nil, All-cons, All-weaker}
 use Rattle.std.proofs.lemmas.Slice.Zip.{all_zipped_more}
 use Rattle.classfile.specs.Units.{units_text}
@@ -50,9 +50,6 @@ use Rattle.image_reader.specs.steps.Held.{HoldsRegions}
 use Rattle.image_reader.proofs.ReferencesLemmas.{reference_is}
 
 -- ---- the program
-
-pub adds_none : (P : Tables) → AddsStrings P P
-adds_none P = record { family = refl; classes = refl; added = []; strings = sym (append-nil P.strings) }
 
 pub adds_more : (P Q R : Tables) → AddsStrings P Q → AddsStrings Q R → AddsStrings P R
 adds_more P Q R first second = record {
@@ -320,9 +317,6 @@ row_holds_all S count told row objects is numbers holds =
 
 -- ---- regions
 
-pub no_regions : (S : List (List ℕ)) → HoldsRegions S [] (environment_of [])
-no_regions S c = refl
-
 pub next_region : (S : List (List ℕ)) (told : List (Option ImageRegion)) (t : Option ImageRegion)
     (old new : Environment) (n : ℕ) → length told ≡ n → HoldsRegions S told old → HoldsClass S t (new n)
     → ((c : ℕ) → c ≢ n → new c ≡ old c) → HoldsRegions S (told ++ t ∷ []) new
@@ -339,14 +333,6 @@ next_region S told t old new n count holds here others c = by (tested (c == n))
         let same : region_in (told ++ t ∷ []) c ≡ region_in told c =
         other_of told t None c (λ e. other (e ∙ count)) in
         rw (same, others c other) (holds c)
-
--- a class that is not initialized
-pub no_region : (S : List (List ℕ)) (told : List (Option ImageRegion)) (env : Environment) (n : ℕ) → length told ≡ n
-    → HoldsRegions S told env → HoldsRegions S (told ++ None ∷ []) env
-no_region S told env n count holds =
-    let past : region_in told n ≡ None = get_or_past told n None (omega (arith, count)) in
-    let none : HoldsClass S None (env n) = rw past at (holds n) in
-    next_region S told None env env n count holds none (λ c other. refl)
 
 pub put_region : (S : List (List ℕ)) (lower : List (Option ImageRegion)) (t : Option ImageRegion) (told : ImageRegion)
     (old new : List (Option Held)) (n : ℕ) (r : Held) → length lower ≡ n → HoldsRegions S lower (environment_of old)

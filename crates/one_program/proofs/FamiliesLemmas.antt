@@ -127,7 +127,7 @@ superclass_of_name family fits name s t e g =
     (one_class family fits name (Some (class_of s)) (Some (class_of t)) (has_name family s name e)
     (has_name family t name g)))
 
-number_of_name : (family : Family) → IsFamily family → (name : List ℕ) (c d : ℕ) → name_in family c ≡ Some name
+pub number_of_name : (family : Family) → IsFamily family → (name : List ℕ) (c d : ℕ) → name_in family c ≡ Some name
     → name_in family d ≡ Some name → c ≡ d
 number_of_name family fits name c d e g =
     let same : Some (class.Given c) ≡ Some (class.Given d) =

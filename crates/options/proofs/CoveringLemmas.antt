@@ -1,12 +1,11 @@
 -- Places that runs cover, and the classes whose names stand there.
 use Rattle.std.proofs.Common.{◌≡◌, ◌≢◌, ℕ, ◌+◌, ◌<◌, ◌≤◌, ◌⊎◌, inl, inr, Bool, List, length, set}
-use Rattle.std.proofs.Common.{get_or, take, Some, refl, sym, ap, ◌∙◌, subst, arith, ◌↔◌, slice_get}
+use Rattle.std.proofs.Common.{get_or, take, Some, sym, ap, ◌∙◌, subst, arith, ◌↔◌, slice_get}
 use Rattle.std.proofs.Common.{max}
 use Rattle.std.specs.List.{All}
 use Rattle.std.specs.String.{string_bytes}
 use Rattle.std.proofs.lemmas.Bool.{cases_eq, cases_lt}
 use Rattle.std.proofs.lemmas.List.{get_or-set_same, get_or-set_other, length-set, take_all}
-use Rattle.std.proofs.lemmas.List.Elements.{All-nil}
 use Rattle.std.proofs.lemmas.Option.{same_Some, slice_get_within, slice_get_cases}
 use Rattle.options.specs.Patterns.{spelled}
 use Rattle.options.specs.steps.Marks.{IsMarked, Grow}
@@ -99,19 +98,6 @@ of_unknown names pattern run fault is none (inl memory) = inl memory
 of_unknown names pattern run fault is none (inr (text, copy, same)) =
     inr (subst (IsOfUnknown names pattern) (sym same) (of_text copy (unknown_by_run names pattern run is none)))
 
-pub none_covered_yet : (names : List DottedName) (patterns : List (List ℕ)) (ends : List ℕ)
-    → AreCoveredBy names patterns ends ends 0
-none_covered_yet names patterns ends = record {
-  known = All-nil (IsKnownIn names);
-  covers = record {
-    len = refl;
-    places = λ i. (
-      λ is. inl is,
-      λ either. elim either [ inl was ↦ was | inr some ↦ absurd (omega (arith, some.1.1)) ],
-    );
-  };
-}
-
 module _ (names : List DottedName) (patterns : List (List ℕ)) (first old new : List ℕ) (n : ℕ) (pattern : List ℕ)
     (at : slice_get patterns n ≡ Some pattern) (before : AreCoveredBy names patterns first old n)
     (more : CoversMore old new (IsMatchedAt names pattern)) where
@@ -170,19 +156,6 @@ module _ (names : List DottedName) (patterns : List (List ℕ)) (first now : Lis
       done.covers
 
 -- ---- the classes at covered places
-
-pub none_marked_yet : (names : List DottedName) (ends : List ℕ) (marks : List Bool)
-    → AreMarkedTo names ends marks marks 0 0
-none_marked_yet names ends marks = record {
-  end = λ i. (λ is. absurd (omega (arith, is)), λ some. absurd (omega (arith, some.1)));
-  marks = record {
-    len = refl;
-    marks = λ c. (
-      λ is. inl is,
-      λ either. elim either [ inl was ↦ was | inr some ↦ absurd (omega (arith, some.2)) ],
-    );
-  };
-}
 
 module _ (names : List DottedName) (ends : List ℕ) (first old : List Bool) (count reach more : ℕ)
     (before : AreMarkedTo names ends first old count reach) (is : more ≡ max (get_or ends count 0) reach) where

@@ -39,13 +39,6 @@ dotted_whole name i old new end all more =
 
 -- ---- the names of classes, one by one
 
-pub no_names : (family : Family) → AreNames family 0 []
-no_names family = record {
-  count = refl;
-  each = λ n held. absurd (omega (arith, held.1));
-  whole = λ c small. absurd (omega (arith, small));
-}
-
 module _ (family : Family) (number : ℕ) (class : GivenClass) (at : slice_get family number ≡ Some class)
     (old new : List DottedName) (before : AreNames family number old)
     (adds : AddsName (name_of class.file) number old new) where

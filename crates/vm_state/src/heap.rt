@@ -51,7 +51,7 @@ impl Model for Row {
         × ((k : ℕ) → s.count ≤ k → monitor_in s.owners k ≡ Free) };
 }
 
-/// The number at a place: of the first so many it is the place, of the others it stands in a list.
+/// The number at a place: of the first `plain` it is the place, of the others it stands in a list.
 #[inline(always)]
 fn number_at(plain: usize, later: &[u64], place: usize) -> Option<u64>
     ensures { result ≡ slice_get (numbers_of plain later.now) place }
@@ -212,7 +212,7 @@ impl Row {
         Row::of_none(alloc, 0)
     }
 
-    /// The row of a maker that made so many objects, of which none is held.
+    /// The row of a maker that made `count` objects, of which none is held.
     fn of_none(alloc: Global, count: u64) -> Row
         ensures { result ≡ record { count = count; objects = [] } }
     {
@@ -224,7 +224,7 @@ impl Row {
         }
     }
 
-    /// The same row once more.
+    /// A copy of the row.
     ///
     /// # Errors
     /// `AllocError` where memory is refused.
@@ -250,7 +250,7 @@ impl Row {
         self.count
     }
 
-    /// So many objects were made, and these are held.
+    /// The row of a maker that made `count` objects, of which these are held.
     ///
     /// # Errors
     /// `AllocError` where memory is refused.
@@ -332,7 +332,7 @@ impl Row {
         }
     }
 
-    /// The same, by a search.
+    /// The place of the object of a number, found by halving the row.
     #[inline(never)]
     fn searched_place(&self, number: u64) -> Option<usize>
         ensures held { IfSome result (λ place. IsSome (object_at_place self.now.objects place number)) }
@@ -359,7 +359,7 @@ impl Row {
         self.kept(number)
     }
 
-    /// The same.
+    /// The object of a number, as it is kept.
     #[inline(always)]
     fn kept(&self, number: u64) -> Option<&Kept>
         ensures { option_copied result ≡ option_map kept_of (object_in self.now.objects number) }
@@ -394,7 +394,7 @@ impl Row {
         self.set_slot_as(number, Packing::Briefs, slot, value)
     }
 
-    /// The same, quick where its slots are held as expected.
+    /// As [`set_slot`](Row::set_slot), quick where the object's slots are held as expected.
     ///
     /// # Errors
     /// `AllocError` where memory is refused; nothing has changed then.

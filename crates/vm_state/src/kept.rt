@@ -118,7 +118,7 @@ impl KeptClass {
         KeptClass { word }
     }
 
-    /// The same once more.
+    /// A copy of the class.
     fn copy(&self) -> KeptClass
         ensures { result ≡ self.now }
     {

@@ -40,7 +40,7 @@ impl Slots {
         }
     }
 
-    /// This value so many times, for an array: where its components are numbers they take as many bytes as their type
+    /// This value `count` times, for an array: where its components are numbers they take as many bytes as their type
     /// wants.
     ///
     /// # Errors
@@ -57,7 +57,7 @@ impl Slots {
         Ok(Slots { elements })
     }
 
-    /// No values yet, and room for so many, for an array: where its components are numbers they take as many bytes as
+    /// No values yet, and room for `room`, for an array: where its components are numbers they take as many bytes as
     /// their type wants.
     ///
     /// # Errors
@@ -80,7 +80,7 @@ impl Slots {
         Ok(Slots { elements })
     }
 
-    /// The same values once more.
+    /// A copy of the slots.
     ///
     /// # Errors
     /// `AllocError` where memory is refused.
@@ -177,7 +177,7 @@ impl Slots {
         self.elements.set(slot, value)
     }
 
-    /// The same, quick where they are held as expected.
+    /// As [`set`](Slots::set), quick where the values are held as expected.
     ///
     /// # Errors
     /// `AllocError` where memory is refused; nothing has changed then.
@@ -216,7 +216,7 @@ impl Slots {
 #[derive(Clone, Copy)]
 pub enum Monitor {
     Free,
-    /// Owned by a thread, which entered it so many times.
+    /// Owned by a thread, which entered it `depth` times.
     Owned { thread: u32, depth: u64 },
 }
 

@@ -157,7 +157,7 @@ impl Elements {
         }
     }
 
-    /// The same, quick where they are held as expected.
+    /// As [`set`](Elements::set), quick where the values are held as expected.
     #[inline(always)]
     pub(crate) fn set_as(
         &mut self,

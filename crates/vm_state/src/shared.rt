@@ -113,7 +113,7 @@ impl Shared {
         Ok(())
     }
 
-    /// Keeps a place for a class, and for the first so many of its static fields; nothing else changes.
+    /// Keeps a place for a class, and for the first `count` of its static fields; nothing else changes.
     ///
     /// # Errors
     /// `AllocError` where memory is refused, but never where they have places.
@@ -186,7 +186,7 @@ impl Shared {
         self.kept(name)
     }
 
-    /// The same.
+    /// The object of a name, as it is kept.
     #[tactic(auto, unfolding(crate::specs::Shares::shared_of))]
     #[inline(always)]
     fn kept(&self, name: Name) -> Option<&Kept>
@@ -243,7 +243,7 @@ impl Shared {
         self.set_slot_as(name, Packing::Briefs, slot, value)
     }
 
-    /// The same, quick where its slots are held as expected.
+    /// As [`set_slot`](Shared::set_slot), quick where the object's slots are held as expected.
     ///
     /// # Errors
     /// `AllocError` where memory is refused; nothing has changed then.

@@ -1,11 +1,9 @@
 -- With more regions at hand a class does as it does in its wave.
-use Rattle.std.proofs.Common.{◌≡◌, inl, inr, ℕ, ◌<◌, ◌≤◌, length, IsSome, subst}
-use Rattle.vm_state.specs.SharedState.{Region}
+use Rattle.std.proofs.Common.{◌≡◌, inl, inr, ℕ, ◌<◌, length, IsSome, subst}
 use Rattle.semantics.specs.Quiet.{Environment, Refusal, Stop}
 use Rattle.semantics.specs.Quiet as quiet
-use Rattle.semantics.specs.Settling.{Settles, StoppedBy}
+use Rattle.semantics.specs.Settling.{StoppedBy}
 use Rattle.semantics.proofs.EnvironmentsLemmas.{Extends, settles-wider}
-use Rattle.semantics.proofs.OneRunLemmas.{settles_once}
 use Rattle.semantics.proofs.RefusalsLemmas.{stop_excludes_lem, one_stop_lem, settles_or_stops_lem}
 use Rattle.loading.specs.Families.{IsFamily, AreParentsWithin}
 use Rattle.program.specs.Programs.{IsProgram}
@@ -14,7 +12,7 @@ use Rattle.machine.specs.Linked.{program_of}
 use Rattle.use_graph.specs.declared.mark.Mark.{Mark}
 use Rattle.use_graph.specs.Uses.{IsUse, HasMark}
 use Rattle.evaluator.proofs.WiderStopsLemmas.{stopped-wider}
-use Rattle.wave_scheduler.specs.Settled.{Settled, below, LeavesRegion}
+use Rattle.wave_scheduler.specs.Settled.{Settled, below}
 use Rattle.wave_scheduler.specs.Laws.{AreSettledBelow, MoreAtHand}
 use Rattle.wave_scheduler.proofs.TriedLemmas.{never_barred_lem}
 
@@ -30,18 +28,6 @@ module _ (P : Tables) (budget : ℕ) (S : Settled) (n : ℕ) (is : IsProgram P) 
       let (why, same) = never_barred_lem P budget S n is fits within are c low unmarked some stop stops in
       let here = subst (StoppedBy (program_of P) (below S n) c budget) same stops in
       (why, here, stopped-wider (program_of P) (below S n) env more c budget why here)
-
-  leaves : (cost : ℕ) (region : Region) → Settles (program_of P) env c cost region → cost ≤ budget
-      → LeavesRegion P budget S c n region
-  leaves cost region settles small = elim (settles_or_stops_lem (program_of P) (below S n) c budget) [
-    | inl (price, other, also, few) ↦
-        let there = settles-wider (program_of P) (below S n) env more c price other also in
-        let same = (settles_once (program_of P) env c price cost other region there settles).1 in
-        (price, subst (Settles (program_of P) (below S n) c price) same also, few)
-    | inr (stop, stops) ↦
-        let (why, here, there) = refused_so stop stops in
-        absurd (stop_excludes_lem (program_of P) env c cost budget region (quiet.Refused why) settles small there)
-  ]
 
   stopped : (stop : Stop) → StoppedBy (program_of P) env c budget stop
       → (why : Refusal) × (stop ≡ quiet.Refused why)

@@ -1,5 +1,5 @@
 use Rattle.classfile.proofs.EarlierMemberLemmas.{utf8_index_has_utf8, descriptor_has_utf8}
-use Rattle.classfile.proofs.member.signature_at.Goals as goal
+use Rattle.classfile.proofs.member.name_and_descriptor_at.Goals as goal
 
 pub returns-clause-texts : goal.returns-clause-texts
 returns-clause-texts c = (

@@ -3,7 +3,7 @@ use Rattle.std.proofs.lemmas.List.Elements.{All-contains}
 use Rattle.hierarchy.specs.steps.Answers.{IsAnswer}
 use Rattle.hierarchy.specs.steps.Declarations.{IsWhole}
 use Rattle.hierarchy.proofs.DeclarationsLemmas.{wholes_on, whole_still}
-use Rattle.hierarchy.proofs.resolve_ahead.Group.declare.Goals as goal
+use Rattle.hierarchy.proofs.resolve_ahead.ReferenceGroup.declare.Goals as goal
 
 pub returns-then-ends_with_key-clause-whole : goal.returns-then-ends_with_key-clause-whole
 returns-then-ends_with_key-clause-whole c =

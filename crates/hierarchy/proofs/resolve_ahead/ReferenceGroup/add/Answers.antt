@@ -4,7 +4,7 @@ use Rattle.std.proofs.lemmas.List.Elements.{All-push}
 use Rattle.loading.specs.Families.{Family}
 use Rattle.hierarchy.specs.steps.Answers.{IsAnswer}
 use Rattle.hierarchy.specs.declared.answers.Answer.{Answer}
-use Rattle.hierarchy.proofs.resolve_ahead.Group.add.Goals as goal
+use Rattle.hierarchy.proofs.resolve_ahead.ReferenceGroup.add.Goals as goal
 
 pub returns : goal.returns
 returns c =

@@ -1,7 +1,7 @@
 use Rattle.std.proofs.lemmas.Result.{err_from_is_err_and}
 use Rattle.classfile.specs.reading.Class.{interface_at}
 use Rattle.classfile.proofs.RepeatLemmas.{next_item, item_fails, all_items}
-use Rattle.classfile.proofs.declaration.push_interfaces_at.Goals as goal
+use Rattle.classfile.proofs.header.push_interfaces_at.Goals as goal
 
 pub returns-in_err-interface : goal.returns-in_err-interface
 returns-in_err-interface c =

@@ -1,7 +1,7 @@
 use Rattle.std.proofs.Common.{length, refl}
 use Rattle.std.proofs.lemmas.Option.{slice_get_read}
 use Rattle.hierarchy.proofs.RowLemmas.{row_behind}
-use Rattle.hierarchy.proofs.depth_first.Row.put_behind.Goals as goal
+use Rattle.hierarchy.proofs.depth_first.LinkedOrder.put_behind.Goals as goal
 
 pub returns-clause-row : goal.returns-clause-row
 returns-clause-row c = λ cs row out.

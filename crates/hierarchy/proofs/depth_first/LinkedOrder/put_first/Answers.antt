@@ -1,6 +1,6 @@
 use Rattle.std.proofs.Common.{refl}
 use Rattle.hierarchy.proofs.RowLemmas.{set_here, set_aside}
-use Rattle.hierarchy.proofs.depth_first.Row.put_first.Goals as goal
+use Rattle.hierarchy.proofs.depth_first.LinkedOrder.put_first.Goals as goal
 
 pub returns-clause-row : goal.returns-clause-row
 returns-clause-row c = λ cs row out.

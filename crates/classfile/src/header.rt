@@ -4,7 +4,7 @@ ghost use Rattle.std.specs.Prelude.{◌≡◌};
 ghost use Rattle.classfile.specs.Gives.{Gives};
 ghost use Rattle.classfile.specs.reading.Repeat.{repeat_at};
 ghost use Rattle.classfile.specs.reading.Class.{this_class_at, super_class_at, class_indices_at};
-ghost use Rattle.classfile.specs.reading.Class.{interface_at, interfaces_at, declaration_at};
+ghost use Rattle.classfile.specs.reading.Class.{interface_at, interfaces_at, header_at};
 
 use crate::constant::Constant;
 use crate::fault::ClassFault;
@@ -35,9 +35,9 @@ impl Interfaces {
     }
 }
 
-/// What stands between the constant pool and the members.
+/// The header of a class: what stands between the constant pool and the members.
 #[derive(Drop)]
-pub(crate) struct Declaration {
+pub(crate) struct Header {
     pub(crate) access_flags: u16,
     pub(crate) this_class: u16,
     pub(crate) super_class: u16,
@@ -139,7 +139,7 @@ fn interfaces_at<'a>(
     Ok((Interfaces { items }, rest))
 }
 
-/// Reads so many indices after those that stand before.
+/// Reads `count` indices after those that stand before.
 fn push_interfaces_at<'a>(
     pool: &[Constant],
     total: usize,
@@ -159,23 +159,23 @@ fn push_interfaces_at<'a>(
     Ok(rest)
 }
 
-#[tactic(auto, unfolding(crate::specs::reading::Class::declaration_at, crate::specs::reading::Class::class_indices_at))]
-pub(crate) fn declaration_at<'a>(
+#[tactic(auto, unfolding(crate::specs::reading::Class::header_at, crate::specs::reading::Class::class_indices_at))]
+pub(crate) fn header_at<'a>(
     alloc: Global,
     pool: &[Constant],
     total: usize,
     bytes: &'a [u8],
-) -> Result<(Declaration, &'a [u8]), ClassFault>
-    ensures { Gives (λ x. (x.0, x.1.now)) result (declaration_at pool.now total bytes.now) }
+) -> Result<(Header, &'a [u8]), ClassFault>
+    ensures { Gives (λ x. (x.0, x.1.now)) result (header_at pool.now total bytes.now) }
 {
     let (access_flags, rest) = u16_at(total, bytes)?;
     let (indices, rest) = class_indices_at(pool, total, rest)?;
     let (interfaces, rest) = interfaces_at(alloc, pool, total, rest)?;
-    let declaration = Declaration {
+    let header = Header {
         access_flags,
         this_class: indices.this_class,
         super_class: indices.super_class,
         interfaces,
     };
-    Ok((declaration, rest))
+    Ok((header, rest))
 }
