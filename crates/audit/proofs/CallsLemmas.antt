@@ -1,12 +1,11 @@
 -- What an instruction's scope has it call and need is what its code does.
 use Rattle.std.proofs.Common.{◌≡◌, ℕ, Bool, true, false, cond, Option, Some, None}
-use Rattle.std.proofs.Common.{if◌then◌else◌, is_some, refl, sym, ap, option_map, ◌∙◌, slice_get}
+use Rattle.std.proofs.Common.{is_some, refl, sym, ap, option_map, ◌∙◌, slice_get}
 use Rattle.built_in.specs.Keys.{NameAndType}
 use Rattle.built_in.specs.declared.class_id.ClassId.{ClassId}
 use Rattle.built_in.specs.declared.class_id.ClassId.TheVariants as class
 use Rattle.built_in.specs.declared.method.BuiltInMethod.{BuiltInMethod}
 use Rattle.built_in.specs.Methods.{key_of_member}
-use Rattle.vm_state.specs.declared.frame.Frame.{Frame}
 use Rattle.vm_state.specs.declared.frame.Activity.{Activity}
 use Rattle.vm_state.specs.declared.frame.Activity.TheVariants.{Method}
 use Rattle.semantics.specs.Bounds.{MayCall}
@@ -18,18 +17,16 @@ use Rattle.hierarchy.specs.Selectable.{IsSelectable}
 use Rattle.hierarchy.specs.Selection.{found_from, found_if, selected}
 use Rattle.hierarchy.proofs.SelectableLemmas.{found_declares, by_key, selects_built_in, selects_given, private_alone}
 use Rattle.program.specs.declared.class.Class.{Class}
-use Rattle.program.specs.declared.class.Implementation.{Implementation}
 use Rattle.program.specs.Programs.{is_main, IsImplementation, IsProgram}
-use Rattle.program.specs.Tables.{Tables, implementation_at, implementations_of, initializer_in, main_if, main_in}
+use Rattle.program.specs.Tables.{Tables, implementations_of, main_if, main_in}
 use Rattle.machine.specs.Operations.{Operation, operation_at}
-use Rattle.machine.specs.Linked.{initializer_called, initializer_frame_of, initializer_frame}
 use Rattle.machine.proofs.LawsStaticLemmas.{IsClassIn}
 use Rattle.machine.proofs.ListLemmas.{left_of_pair, right_of_pair, first_passes}
-use Rattle.use_graph.specs.declared.callee.Callee.{Callee}
 use Rattle.use_graph.specs.declared.callee.Callee.TheVariants as callees
-use Rattle.use_graph.specs.Code.{callee_of, MayRunFor}
-use Rattle.use_graph.specs.Scopes.{activity_of, called_by, scope_if}
+use Rattle.use_graph.specs.Code.{callee_of}
+use Rattle.use_graph.specs.Scopes.{scope_if}
 use Rattle.use_graph.specs.Uses.{IsDeclared, Calls, Needs}
+use Rattle.use_graph.proofs.ScopeUsesLemmas.{called_runs}
 
 -- ---- what is selected for any receiver is selected for one of a given class
 
@@ -70,31 +67,6 @@ module _ (family : Family) (d k : ℕ) where
 
 -- ---- what is called
 
--- a method that may run for a call, of this activity
-abbrev RunsFor : Tables → Callee → Activity → Type 0
-RunsFor P callee a = (e : ℕ) × (j : ℕ) × (a ≡ Method e j) × MayRunFor P callee e j × IsDeclared P e j
-
-declared_runs : (P : Tables) (callee : Callee) (d k : ℕ) (a : Activity) (b : Bool)
-    → is_some (implementation_at P d k) ≡ b → (if b then Some (Method d k) else None) ≡ Some a
-    → MayRunFor P callee d k → RunsFor P callee a
-declared_runs P callee d k a true there h may = (d, k, cc, may, there)
-declared_runs P callee d k a false there h may = absurd cc
-
-called_runs : (P : Tables) (callee : Callee) (x : ClassId) (a : Activity) → called_by P callee x ≡ Some a
-    → RunsFor P callee a
-called_runs P callees.Nobody x a h = absurd cc
-called_runs P (callees.Exactly d k) x a h =
-    declared_runs P (callees.Exactly d k) d k a (is_some (implementation_at P d k)) refl h (refl, refl)
-called_runs P (callees.Selected m) x a h = by_found (selected P.family x m) refl h
-  where
-    by_found : (o : Option ResolvedMethod) → selected P.family x m ≡ o → activity_of P o ≡ Some a
-        → RunsFor P (callees.Selected m) a
-    by_found None is h = absurd cc
-    by_found (Some (methods.Given d k)) is h =
-        declared_runs P (callees.Selected m) d k a (is_some (implementation_at P d k)) refl h
-        (selected_given P.family d k x m is)
-    by_found (Some (methods.BuiltIn b)) is h = absurd cc
-
 -- what an instruction of a method calls by its scope
 abbrev pub IsCalled : Tables → ℕ → ℕ → Activity → Type 0
 IsCalled P d k a = (e : ℕ) × (j : ℕ) × (a ≡ Method e j) × Calls P d k e j × IsDeclared P e j
@@ -113,18 +85,7 @@ scope_needs P d k place e (Some o) at needs = (place, o, at, needs)
 
 -- ---- methods that are called by themselves
 
--- a class initialization method that runs is declared
-pub initializer_declared : (P : Tables) (c m : ℕ) (f : Frame) → initializer_in P c ≡ Some m
-    → initializer_frame P c ≡ Some f → IsDeclared P c m
-initializer_declared P c m f has h =
-    by (implementation_at P c m) refl (sym (ap (initializer_frame_of P c) has) ∙ h)
-  where
-    by : (o : Option Implementation) → implementation_at P c m ≡ o → initializer_called c m o ≡ Some f
-        → IsDeclared P c m
-    by None at h = absurd (let clash : None ≡ Some f = h in cc)
-    by (Some x) at h = ap is_some at
-
--- so is a `main`
+-- a `main` is declared
 pub main_declared : (P : Tables) → IsProgram P → (c m : ℕ) → main_in P c ≡ Some m → IsDeclared P c m
 main_declared P is c m = by (slice_get P.classes c) refl
   where

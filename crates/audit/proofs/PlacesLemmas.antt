@@ -1,7 +1,6 @@
 -- The places of methods that are reached, one method after another.
 use Rattle.std.proofs.Common.{◌≡◌, ◌↔◌, ◌⊎◌, ℕ, ◌+◌, ◌<◌, ◌≤◌, List, [], ◌∷◌, ◌++◌, length, Option, Some, None}
-use Rattle.std.proofs.Common.{slice_get, refl, sym}
-use Rattle.std.proofs.Common.{ap, subst, ◌∙◌, inl, inr, arith, is_some}
+use Rattle.std.proofs.Common.{slice_get, refl, sym, ap, subst, ◌∙◌, inl, inr, arith, is_some}
 use Rattle.std.specs.Prelude.{MatchOption}
 use Rattle.std.specs.List.{Contains}
 use Rattle.std.proofs.lemmas.Option.{slice_get_within}
@@ -24,17 +23,6 @@ use Rattle.audit.specs.steps.Reaching.{AreReachedMethods, IsToldPlace, IsStartPl
 
 pub none_among : {A : Type 0} (x : A) → Contains [] x → ⊥
 none_among x (k, small, at) = omega arith
-
--- what is added to nothing
-pub from_nothing : {X : Type 0} (none new : List X) (A : X → Type 0) → none ≡ []
-    → ((x : X) → Contains new x ↔ (Contains none x ⊎ A x)) → (x : X) → Contains new x ↔ A x
-from_nothing none new A empty step x = (
-  λ p. elim ((step x).0 p) [
-    | inl was ↦ absurd (none_among x (subst (λ l. Contains l x) empty was))
-    | inr a ↦ a
-  ],
-  λ a. (step x).1 (inr a),
-)
 
 -- one is added, and no other is such a one
 pub one_added : {X : Type 0} (old new : List X) (x : X) (A : X → Type 0) → new ≡ old ++ x ∷ [] → A x
@@ -126,11 +114,6 @@ module _ (P : Tables) (uses : UseGraph) (whole : IsUseGraph P uses) (entries : L
   unreached reached n old are none = none_added n old (λ p (m, at, class, index, is).
       none ((are n m at).1 (subst (λ (c : ℕ). MayReach P entries (Method c m.index)) class
       (subst (λ (k : ℕ). MayReach P entries (Method p.class k)) index (place_reached p is)))))
-
-  pub unnumbered : (n : ℕ) (old : List Place) → slice_get uses.methods n ≡ None
-      → (p : Place) → Contains old p ↔ (Contains old p ⊎ IsPlaceOf P entries uses.methods n p)
-  unnumbered n old none = none_added n old (λ p (m, at, class, index, is).
-      (let two : None ≡ Some m = sym none ∙ at in cc))
 
   pub bodiless : (n : ℕ) (m : DeclaredMember) → slice_get uses.methods n ≡ Some m
       → slice_get uses.bodies.items n ≡ None → ⊥

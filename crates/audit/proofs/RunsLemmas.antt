@@ -27,9 +27,10 @@ use Rattle.use_graph.proofs.ListLemmas.{one_of}
 use Rattle.use_graph.proofs.ScopeTableLemmas.{table_is_bounded_lem}
 use Rattle.audit.specs.Reach.{Initialization, MayReach, main, entry, called, needed, before, initializer}
 use Rattle.audit.specs.Runs.{IsReachedActivity, RunsReached, StartsFrom, ThreadsRunReached}
-use Rattle.audit.proofs.CallsLemmas.{scope_calls, scope_needs, initializer_declared, main_declared}
+use Rattle.audit.proofs.CallsLemmas.{scope_calls, scope_needs, main_declared}
 use Rattle.audit.proofs.PlacesLemmas.{none_among}
 use Rattle.audit.proofs.ThreadsLemmas.{IsClosed, Stack, run_stands, start_stands, stack_of}
+use Rattle.use_graph.proofs.ScopeUsesLemmas.{initializer_declared}
 
 past_rows : (rows : List (List ℕ)) (c : ℕ) → length rows ≤ c → slice_index_or rows c [] ≡ []
 past_rows rows c h = grind (arith, common_steps)

@@ -1,4 +1,4 @@
-//! What holds of the threads of a run.
+//! Laws of the threads of a run.
 
 ghost use Rattle.audit.specs.Ends.{EndsAreTold};
 ghost use Rattle.audit.specs.Runs.{ThreadsRunReached};

@@ -10,8 +10,8 @@ use Rattle.semantics.proofs.AcceptedRegionsLemmas.{one_region_lem}
 use Rattle.semantics.proofs.BranchesLemmas.{value_in}
 use Rattle.semantics.proofs.TestsLemmas.{from_some}
 use Rattle.program.specs.Tables.{Tables}
-use Rattle.evaluator.specs.declared.regions.Region.{Region as Held}
-use Rattle.evaluator.specs.Regions.{environment_of}
+use Rattle.region_shape.specs.declared.regions.Region.{Region as Held}
+use Rattle.region_shape.specs.Regions.{environment_of}
 use Rattle.region_shape.specs.Laws.{IsLinked, IsFromFile}
 use Rattle.region_shape.specs.Sizes.{IsWithin}
 use Rattle.region_shape.specs.Wholes.{AreWhole}

@@ -84,7 +84,7 @@ all_or_first {A} Q each (x ∷ xs) = by (each x) (all_or_first Q each xs)
       before = All-cons Q x (take first.place xs) q first.before;
     })
 
-same_bytes : (a b : List ℕ) → Decided (a ≡ b)
+pub same_bytes : (a b : List ℕ) → Decided (a ≡ b)
 same_bytes a b = by (bytes_eq a b) refl
   where
     by : (t : Bool) → bytes_eq a b ≡ t → Decided (a ≡ b)

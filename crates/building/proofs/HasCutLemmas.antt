@@ -17,8 +17,8 @@ use Rattle.program.specs.InstanceFields.{static_kinds}
 use Rattle.program.specs.Tables.{Tables, statics_in}
 use Rattle.region_shape.specs.Shapes.{SuitsField}
 use Rattle.region_shape.specs.Laws.{HaveShape}
-use Rattle.evaluator.specs.declared.regions.Region.{Region as Held}
-use Rattle.evaluator.specs.Regions.{environment_of, region_of}
+use Rattle.region_shape.specs.declared.regions.Region.{Region as Held}
+use Rattle.region_shape.specs.Regions.{environment_of, region_of}
 use Rattle.object_graph.specs.declared.name_set.ObjectName.{ObjectName}
 use Rattle.object_graph.specs.Cuts.{IsCutAt, IsCutOf, IsCutRegion}
 use Rattle.object_graph.specs.Reached.{Holds, IsInFields, IsInStaticsOf, IsReached, held, object_among, object_of}

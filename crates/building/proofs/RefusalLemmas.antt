@@ -14,7 +14,7 @@ use Rattle.building.specs.declared.build.Built.{Built}
 use Rattle.building.specs.declared.build.BuildFault.{BuildFault}
 use Rattle.building.specs.declared.build.BuildFault.TheVariants as faults
 use Rattle.building.specs.declared.build.BuildOptions.{BuildOptions}
-use Rattle.building.specs.declared.asking.Asked.{Asked}
+use Rattle.building.specs.declared.asking.AskedOptions.{AskedOptions}
 use Rattle.building.specs.Builds.{text_of, IsSettledAs}
 use Rattle.building.specs.Refusals.{IsLeftUnmet, IsOption, OptionsFail, demands, option, patterns, unmet}
 use Rattle.building.specs.steps.Asking.{Always, IsAsked}
@@ -62,7 +62,7 @@ no_option_is_wave F (Err fault) (inr wrong) e = no_wave_fault F fault wrong (cc)
 -- ---- what is settled
 
 -- what was settled, and is then checked
-pub checked_settles : (P : Tables) (asked : Asked) (budget : ℕ) (s : Answer) (r : Result Answer BuildFault)
+pub checked_settles : (P : Tables) (asked : AskedOptions) (budget : ℕ) (s : Answer) (r : Result Answer BuildFault)
     → AreSettled P asked.forced budget (settled_of s) → IfOk r (λ last. last ≡ s)
     → OnOk r (AreMet P asked.demand (settled_of s))
     → IfErr r (λ fault. IsMemoryOr (IsUnmet P asked.demand (settled_of s)) fault) → SettlesAsked P asked budget r
@@ -80,7 +80,7 @@ checked_settles P asked budget s (Err fault) settled same met wrong = record {
 }
 
 -- nothing was settled for want of memory
-pub no_memory_settles : (P : Tables) (asked : Asked) (budget : ℕ) (fault : BuildFault) → fault ≡ faults.Memory
+pub no_memory_settles : (P : Tables) (asked : AskedOptions) (budget : ℕ) (fault : BuildFault) → fault ≡ faults.Memory
     → SettlesAsked P asked budget (Err fault)
 no_memory_settles P asked budget fault memory = record { settled = tt; met = tt; fault = inl memory }
 
@@ -91,7 +91,7 @@ module _ (P : Tables) (options : BuildOptions) where
   abbrev build : Option (List ℕ)
   build = text_of options.build_time
 
-  settled_asked : (asked : Asked) (s : Answer) → IsAsked P run build asked
+  settled_asked : (asked : AskedOptions) (s : Answer) → IsAsked P run build asked
       → SettlesAsked P asked options.budget (Ok s) → IsSettledAs P run build options.budget (settled_of s)
   settled_asked asked s is of = record {
     run_list = is.run_list;
@@ -111,7 +111,7 @@ module _ (P : Tables) (options : BuildOptions) where
     };
   }
 
-  left_unmet : (asked : Asked) (fault : OptionFault) → IsAsked P run build asked
+  left_unmet : (asked : AskedOptions) (fault : OptionFault) → IsAsked P run build asked
       → IsLeftUnmet P asked.demand asked.forced options.budget fault → OptionsFail P run build options.budget fault
   left_unmet asked fault is left =
       patterns is.run_list is.build_list
@@ -119,7 +119,7 @@ module _ (P : Tables) (options : BuildOptions) where
       (unmet asked.demand is.by.of.known is.by.of.demanded is.by.of.apart left))
 
   -- what was asked by the options
-  pub asked_settles : (asked : Asked) (r : Result Answer BuildFault) → IsAsked P run build asked
+  pub asked_settles : (asked : AskedOptions) (r : Result Answer BuildFault) → IsAsked P run build asked
       → SettlesAsked P asked options.budget r → SettlesBy P options r
   asked_settles asked (Ok s) is of = record { settled = settled_asked asked s is of; fault = tt }
   asked_settles asked (Err fault) is of = record {

@@ -9,7 +9,7 @@ use Rattle.semantics.specs.Quiet.{Environment}
 use Rattle.semantics.specs.Worlds.{Observation, Shows, lazy_start}
 use Rattle.program.specs.Tables.{Tables}
 use Rattle.machine.specs.Linked.{program_of}
-use Rattle.evaluator.specs.Regions.{environment_of}
+use Rattle.region_shape.specs.Regions.{environment_of}
 use Rattle.initializer_analysis.specs.Verdicts.{IsAccepted}
 use Rattle.wave_scheduler.specs.Laws.{IsAnalysis}
 use Rattle.wave_scheduler.specs.Outcomes.{outcome_of}

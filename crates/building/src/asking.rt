@@ -55,7 +55,7 @@ fn lists_of(alloc: Global, options: &BuildOptions<'_>) -> Result<Lists, OptionFa
 
 /// What options ask for, and the verdicts on all classes.
 #[derive(Drop)]
-pub(crate) struct Asked {
+pub(crate) struct AskedOptions {
     /// The classes that are forced to run time.
     pub forced: Forced,
     /// The classes that are demanded at build time.
@@ -69,13 +69,13 @@ fn ask_judged(
     program: &Program,
     forced: Forced,
     demand: Demand,
-) -> Result<Asked, BuildFault>
+) -> Result<AskedOptions, BuildFault>
     ensures asked { IfOk result (λ asked. (asked.forced ≡ forced) × (asked.demand ≡ demand)
         × AreVerdicts program.now forced asked.verdicts) }
     ensures memory { IfErr result (λ fault. fault ≡ Memory) }
 {
     match judge(alloc, program, &forced) {
-        Ok(verdicts) => Ok(Asked {
+        Ok(verdicts) => Ok(AskedOptions {
             forced,
             demand,
             verdicts,
@@ -90,7 +90,7 @@ fn ask_forced(
     program: &Program,
     forced: Forced,
     build_time: &Patterns,
-) -> Result<Asked, BuildFault>
+) -> Result<AskedOptions, BuildFault>
     ensures asked { IfOk result (AsksOf program.now build_time.now forced) }
     ensures fault { IfErr result
         (λ fault. (fault ≡ Memory) ⊎ IsOption (DemandFails program.now.family build_time.now forced) fault) }
@@ -102,7 +102,7 @@ fn ask_forced(
 }
 
 /// What the patterns of both lists ask for.
-fn ask_by(alloc: Global, program: &Program, lists: &Lists) -> Result<Asked, BuildFault>
+fn ask_by(alloc: Global, program: &Program, lists: &Lists) -> Result<AskedOptions, BuildFault>
     ensures asked { IfOk result (AsksBy program.now lists.now.run_time lists.now.build_time) }
     ensures fault { IfErr result (λ fault. (fault ≡ Memory)
         ⊎ IsOption (Always (ForcingFails program.now lists.now.run_time lists.now.build_time)) fault) }
@@ -118,7 +118,7 @@ pub(crate) fn ask(
     alloc: Global,
     program: &Program,
     options: &BuildOptions<'_>,
-) -> Result<Asked, BuildFault>
+) -> Result<AskedOptions, BuildFault>
     ensures asked { IfOk result
         (IsAsked program.now (text_of options.now.run_time) (text_of options.now.build_time)) }
     ensures fault { IfErr result (λ fault. (fault ≡ Memory) ⊎ IsOption (Always (OptionsFail program.now

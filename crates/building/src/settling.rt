@@ -8,7 +8,7 @@ ghost use Rattle.building.specs.Refusals.{IsOption};
 ghost use Rattle.building.specs.declared.build.BuildFault.TheVariants.{Memory};
 ghost use Rattle.building.specs.steps.Settling.{SettlesAsked, SettlesBy};
 
-use crate::asking::{Asked, ask};
+use crate::asking::{AskedOptions, ask};
 use crate::build::{BuildFault, BuildOptions};
 use options::{Demand, check};
 use program::Program;
@@ -41,13 +41,13 @@ fn checked(
 fn settle_asked_here(
     alloc: Global,
     program: &Program,
-    asked: Asked,
+    asked: AskedOptions,
     budget: u64,
 ) -> Result<Settled, BuildFault>
     requires { AreVerdicts program.now asked.forced asked.verdicts }
     ensures { SettlesAsked program.now asked budget result }
 {
-    let Asked {
+    let AskedOptions {
         forced: _forced,
         demand,
         verdicts,
@@ -63,7 +63,7 @@ fn settle_asked<G: Gate, R: Threads + Wait + Sync>(
     rt: &R,
     alloc: Global,
     program: &Program,
-    asked: Asked,
+    asked: AskedOptions,
     budget: u64,
     workers: u32,
     gate: &G,
@@ -72,7 +72,7 @@ fn settle_asked<G: Gate, R: Threads + Wait + Sync>(
     requires workers { CanWork workers }
     ensures { SettlesAsked program.now asked budget result }
 {
-    let Asked {
+    let AskedOptions {
         forced: _forced,
         demand,
         verdicts,

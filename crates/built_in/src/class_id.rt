@@ -92,7 +92,7 @@ const FROM_LINKAGE_ERROR: [BuiltIn; 4] = [
     BuiltIn::Object,
 ];
 
-/// An array class (JVMS 4.3.2): so many dimensions of an element type.
+/// An array class (JVMS 4.3.2): an element type with this number of dimensions.
 #[derive(Clone, Copy, Debug)]
 pub struct ArrayType {
     /// 1 to 255.

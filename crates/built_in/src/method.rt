@@ -100,7 +100,7 @@ impl BuiltInMethod {
         first_named(members_of(class), name, descriptor)
     }
 
-    /// The same of an array class (JVMS 6.5, invokevirtual).
+    /// The method of a name and a descriptor that an array class has (JVMS 6.5, invokevirtual).
     pub fn of_array(name: &[u8], descriptor: &[u8]) -> Option<BuiltInMethod>
         ensures { MatchOption result
             ((m : Method) → HasArrayMember m

@@ -140,7 +140,7 @@ fn add_letters(bytes: &mut Vec<u8>, letters: &str) -> Result<bool, AllocError> {
     }
 }
 
-/// Adds the bytes of digits so many times. Answers whether there are such.
+/// Adds the bytes of digits `times` times. Answers whether there are such.
 fn add_times(bytes: &mut Vec<u8>, times: &str, digits: &str) -> Result<bool, AllocError> {
     let Ok(times) = times.parse::<u32>() else {
         return Ok(false);

@@ -8,7 +8,7 @@ use Rattle.std.proofs.lemmas.Bool.{and_parts, and_from}
 use Rattle.classfile.specs.declared.fault.ClassFault.{ClassFault}
 use Rattle.classfile.specs.declared.fault.ClassFault.TheVariants as faults
 use Rattle.classfile.specs.declared.constant.Constant.{Constant}
-use Rattle.classfile.specs.declared.declaration.Declaration.{Declaration}
+use Rattle.classfile.specs.declared.header.Header.{Header}
 use Rattle.classfile.specs.declared.attribute.Owner.TheVariants as owners
 use Rattle.classfile.specs.declared.member.MemberKind.TheVariants as kinds
 use Rattle.classfile.specs.reading.Numbers.{◌>>=◌, number_at}
@@ -23,14 +23,14 @@ use Rattle.classfile.specs.Pool.{IsIndexOf, IsClass, IsClassNamed}
 use Rattle.classfile.specs.Class.{IsNoArray, IsClassText}
 use Rattle.classfile.specs.reading.Pool.{pool_at}
 use Rattle.classfile.specs.reading.Members.{attributes_at, members_at}
-use Rattle.classfile.specs.reading.Class.{this_class_at, super_class_at, interface_at, interfaces_at, declaration_of}
-use Rattle.classfile.specs.reading.Class.{declaration_at, magic_at}
+use Rattle.classfile.specs.reading.Class.{this_class_at, super_class_at, interface_at, interfaces_at, header_of}
+use Rattle.classfile.specs.reading.Class.{header_at, magic_at}
 use Rattle.classfile.specs.reading.Class.{pair_at, is_version, version_at, class_body_at, class_at, class_of}
 use Rattle.classfile.specs.FirstFault.{IsItem, IsTableText, Anything, IsMagic, MagicFails, TwoNumbers, IsSupported}
 use Rattle.classfile.specs.FirstFault.{IsVersion, VersionFails}
-use Rattle.classfile.specs.FirstFault.{IsPoolText, IndexOf, IndexFails, IsThisClass, IsSuperClass, declaration_text}
-use Rattle.classfile.specs.FirstFault.{IsDeclaration}
-use Rattle.classfile.specs.FirstFault.{InterfacesFail, DeclarationFails, IsAttributes, IsMembers, MembersFail}
+use Rattle.classfile.specs.FirstFault.{IsPoolText, IndexOf, IndexFails, IsThisClass, IsSuperClass, header_text}
+use Rattle.classfile.specs.FirstFault.{IsHeader}
+use Rattle.classfile.specs.FirstFault.{InterfacesFail, HeaderFails, IsAttributes, IsMembers, MembersFail}
 use Rattle.classfile.specs.FirstFault.{AttributesFail, PartsFail}
 use Rattle.classfile.specs.FirstFault.{FirstFault, IsFirstFault, ExactlyOne}
 use Rattle.classfile.proofs.Lawful.{Lawful, Both, Mapped, wide16, wide32, number_lawful, map_lawful}
@@ -119,18 +119,18 @@ interfaces_lawful pool small total =
     table_lawful u2 (IsIndexOf IsClass pool) Anything (λ earlier. IndexFails (IsIndexOf IsClass pool) total)
     (λ earlier. interface_at pool total) total (interface_lawful pool small total)
 
-abbrev DeclarationParts : List Constant → Declaration → List ℕ → Type 0
-DeclarationParts pool =
+abbrev HeaderParts : List Constant → Header → List ℕ → Type 0
+HeaderParts pool =
     Both (Number w16) (λ flags. Both (IndexOf (IsThisClass pool)) (λ this. Both (IndexOf (IsSuperClass pool))
-    (λ super. Mapped (λ interfaces. declaration_of flags this super interfaces) (InterfaceTable pool))))
+    (λ super. Mapped (λ interfaces. header_of flags this super interfaces) (InterfaceTable pool))))
 
-declaration_is : (pool : List Constant) (d : Declaration) (text : List ℕ) → DeclarationParts pool d text
-    → IsDeclaration pool d text
-declaration_is pool d text s =
+header_is : (pool : List Constant) (d : Header) (text : List ℕ) → HeaderParts pool d text
+    → IsHeader pool d text
+header_is pool d text s =
     let this = s.second in
     let super = this.second in
     let interfaces = super.second in
-    let made = declaration_of s.value this.value super.value interfaces.value in
+    let made = header_of s.value this.value super.value interfaces.value in
     let one = super.parts ∙ append_equal super.front (u2 super.value) super.back (table_text u2 interfaces.value)
     super.first.0.1
     interfaces.spelled.spelled in
@@ -138,10 +138,10 @@ declaration_is pool d text s =
     ∙ append_equal this.front (u2 this.value) this.back (u2 super.value ++ table_text u2 interfaces.value)
     this.first.0.1 one
     in
-    let text-is : text ≡ declaration_text made = s.parts
+    let text-is : text ≡ header_text made = s.parts
     ∙ append_equal s.front (u2 s.value) s.back (u2 this.value ++ (u2 super.value ++ table_text u2 interfaces.value))
     s.first.1 two in
-    let it : IsDeclaration pool made text = record {
+    let it : IsHeader pool made text = record {
       access_flags = s.first.0;
       this_class = this.first.1;
       super_class = super.first.1;
@@ -149,12 +149,12 @@ declaration_is pool d text s =
       interfaces = interfaces.spelled.each;
       spelled = text-is;
     } in
-    let P : Declaration → Type 0 = λ z. IsDeclaration pool z text in subst P (sym interfaces.is) it
+    let P : Header → Type 0 = λ z. IsHeader pool z text in subst P (sym interfaces.is) it
 
-declaration_again : (pool : List Constant) → length pool < 2 ^ 16 → (d : Declaration) (text : List ℕ)
-    → IsDeclaration pool d text
-    → DeclarationParts pool d text
-declaration_again pool small d text s =
+header_again : (pool : List Constant) → length pool < 2 ^ 16 → (d : Header) (text : List ℕ)
+    → IsHeader pool d text
+    → HeaderParts pool d text
+header_again pool small d text s =
     let last = table_text u2 d.interfaces in
     let this_below = within (IsClassNamed IsNoArray pool) pool d.this_class s.this_class in
     record {
@@ -190,35 +190,35 @@ declaration_again pool small d text s =
       parts = s.spelled;
     }
 
-declaration_lawful : (pool : List Constant) → length pool < 2 ^ 16 → (total : ℕ)
-    → Lawful (declaration_at pool total) (IsDeclaration pool) (DeclarationFails pool total)
-unfolding declaration_at this_class_at super_class_at
-declaration_lawful pool small total =
+header_lawful : (pool : List Constant) → length pool < 2 ^ 16 → (total : ℕ)
+    → Lawful (header_at pool total) (IsHeader pool) (HeaderFails pool total)
+unfolding header_at this_class_at super_class_at
+header_lawful pool small total =
     restated
     (then_lawful (number_at w16 total)
     (λ bytes flags. this_class_at pool total flags.1 >>= λ this. super_class_at pool total this.1 >>=
     λ super. interfaces_at pool total super.1 >>= λ interfaces. Ok (
-      declaration_of flags.0 this.0 super.0 interfaces.0,
+      header_of flags.0 this.0 super.0 interfaces.0,
       interfaces.1,
     ))
     (number_lawful w16 wide16 total)
     (λ bytes flags text s. then_lawful (this_class_at pool total)
     (λ bytes this. super_class_at pool total this.1 >>= λ super. interfaces_at
-    pool total super.1 >>= λ interfaces. Ok (declaration_of flags this.0 super.0 interfaces.0, interfaces.1))
+    pool total super.1 >>= λ interfaces. Ok (header_of flags this.0 super.0 interfaces.0, interfaces.1))
     (index_lawful (is_plain_class pool) (IsThisClass pool) total (plain_class_decides pool))
     (λ bytes this text s. then_lawful (super_class_at pool total)
     (λ bytes super. interfaces_at pool total super.1 >>= λ interfaces. Ok
-    (declaration_of flags this super.0 interfaces.0, interfaces.1))
+    (header_of flags this super.0 interfaces.0, interfaces.1))
     (index_lawful (is_class_or_none pool) (IsSuperClass pool) total
     (class_or_none_decides pool))
-    (λ bytes super text s. map_lawful (λ interfaces. declaration_of flags this super interfaces)
+    (λ bytes super text s. map_lawful (λ interfaces. header_of flags this super interfaces)
     (interfaces_at pool total)
     (InterfaceTable pool) (InterfacesFail pool total) (interfaces_lawful pool small total)))))
-    (declaration_is pool) (declaration_again pool small)
+    (header_is pool) (header_again pool small)
 
 -- ---- the whole
 
-abbrev BodyParts : List Constant → Declaration → ClassFile → List ℕ → Type 0
+abbrev BodyParts : List Constant → Header → ClassFile → List ℕ → Type 0
 BodyParts pool d = Both (IsMembers kinds.Field pool) (λ fields. Both (IsMembers kinds.Method pool)
     (λ methods. Mapped (λ attributes. class_file_of pool d fields methods attributes) (IsAttributes pool owners.Class)))
 
@@ -227,7 +227,7 @@ BodyFails pool total = Either (IsMembers kinds.Field pool) (MembersFail kinds.Fi
     (λ fields. Either (IsMembers kinds.Method pool) (MembersFail kinds.Method pool total)
     (λ methods. AttributesFail pool owners.Class total))
 
-body_lawful : (pool : List Constant) (d : Declaration) → length pool < 2 ^ 16 → (total : ℕ)
+body_lawful : (pool : List Constant) (d : Header) → length pool < 2 ^ 16 → (total : ℕ)
     → Lawful (class_body_at pool d total) (BodyParts pool d) (BodyFails pool total)
 unfolding class_body_at
 body_lawful pool d small total =
@@ -245,7 +245,7 @@ body_lawful pool d small total =
 abbrev ClassParts : ClassFile → List ℕ → Type 0
 ClassParts =
     Both IsMagic
-    (λ magic. Both IsVersion (λ version. Both IsPoolText (λ pool. Both (IsDeclaration pool) (λ d. BodyParts pool d))))
+    (λ magic. Both IsVersion (λ version. Both IsPoolText (λ pool. Both (IsHeader pool) (λ d. BodyParts pool d))))
 
 version_text : (v : ℕ × ℕ) (text : List ℕ) → IsVersion v text → text ≡ u2 0 ++ u2 52
 version_text v text s = s.0.2 ∙ append_equal (u2 v.0) (u2 0) (u2 v.1) (u2 52) (ap (λ (n : ℕ). u2 n) s.1.0)
@@ -266,25 +266,25 @@ class_is class text s =
     (table_text attribute_text attributes.value) methods.first.spelled attributes.spelled.spelled in
     let two = fields.parts ∙ append_equal fields.front (table_text member_text fields.value) fields.back
     (table_text member_text methods.value ++ table_text attribute_text attributes.value) fields.first.spelled one in
-    let three = d.parts ∙ append_equal d.front (declaration_text d.value) d.back
+    let three = d.parts ∙ append_equal d.front (header_text d.value) d.back
     (table_text member_text fields.value
     ++ (table_text member_text methods.value ++ table_text attribute_text attributes.value))
     d.first.spelled two in
     let four = pool.parts ∙ append_equal pool.front (table_text constant_text constants) pool.back
-    (declaration_text d.value
+    (header_text d.value
     ++ (table_text member_text fields.value ++ (table_text member_text methods.value ++ table_text
     attribute_text attributes.value))) pool.first.spelled three in
     let five = version.parts
     ∙ append_equal version.front (u2 0 ++ u2 52) version.back
     (table_text constant_text
-    constants ++ (declaration_text
+    constants ++ (header_text
     d.value
     ++ (table_text member_text fields.value ++ (table_text member_text methods.value ++ table_text attribute_text
     attributes.value)))) (version_text version.value version.front version.first) four in
     let text-is : text ≡ class_text made = s.parts
     ∙ append_equal s.front (u4 3405691582) s.back
     ((u2 0 ++ u2 52) ++ (table_text constant_text
-    constants ++ (declaration_text d.value ++ (table_text member_text
+    constants ++ (header_text d.value ++ (table_text member_text
     fields.value ++ (table_text member_text methods.value ++ table_text attribute_text attributes.value))))) magic_text
     five in
     let it : IsClassText text made = record {
@@ -312,11 +312,11 @@ class_again : (class : ClassFile) (text : List ℕ) → IsClassText text class �
 class_again class text s =
     let f = s.fits in
     let pool = class.constants in
-    let d = declaration_of class.access_flags class.this_class class.super_class class.interfaces in
+    let d = header_of class.access_flags class.this_class class.super_class class.interfaces in
     let last = table_text attribute_text class.attributes in
     let four = table_text member_text class.methods ++ last in
     let three = table_text member_text class.fields ++ four in
-    let two = declaration_text d ++ three in
+    let two = header_text d ++ three in
     let one = table_text constant_text pool ++ two in
     record {
       value = 3405691582;
@@ -335,7 +335,7 @@ class_again class text s =
           first = record { fits = f.constants; spelled = refl };
           second = record {
             value = d;
-            front = declaration_text d;
+            front = header_text d;
             back = three;
             first = record {
               access_flags = f.access_flags;
@@ -385,18 +385,18 @@ unfolding class_at
 class_lawful total =
     restated
     (then_lawful (magic_at total)
-    (λ bytes magic. version_at total magic.1 >>= λ version. pool_at total version.1 >>= λ pool. declaration_at
-    pool.0 total pool.1 >>= λ declaration. class_body_at pool.0 declaration.0 total declaration.1) (magic_lawful total)
+    (λ bytes magic. version_at total magic.1 >>= λ version. pool_at total version.1 >>= λ pool. header_at
+    pool.0 total pool.1 >>= λ header. class_body_at pool.0 header.0 total header.1) (magic_lawful total)
     (λ bytes magic text s. then_lawful (version_at total)
-    (λ bytes version. pool_at total version.1 >>= λ pool. declaration_at pool.0 total
-    pool.1 >>= λ declaration. class_body_at pool.0 declaration.0 total declaration.1) (version_lawful total)
+    (λ bytes version. pool_at total version.1 >>= λ pool. header_at pool.0 total
+    pool.1 >>= λ header. class_body_at pool.0 header.0 total header.1) (version_lawful total)
     (λ bytes version text s. then_lawful (pool_at total)
-    (λ bytes pool. declaration_at pool.0 total pool.1 >>= λ declaration. class_body_at pool.0
-    declaration.0 total declaration.1) (pool_lawful total)
-    (λ bytes pool text p. then_lawful (declaration_at pool total)
-    (λ bytes declaration. class_body_at pool declaration.0 total declaration.1)
-    (declaration_lawful pool p.fits.count total)
-    (λ bytes declaration text s. body_lawful pool declaration p.fits.count total)))))
+    (λ bytes pool. header_at pool.0 total pool.1 >>= λ header. class_body_at pool.0
+    header.0 total header.1) (pool_lawful total)
+    (λ bytes pool text p. then_lawful (header_at pool total)
+    (λ bytes header. class_body_at pool header.0 total header.1)
+    (header_lawful pool p.fits.count total)
+    (λ bytes header text s. body_lawful pool header p.fits.count total)))))
     class_is class_again
 
 -- What is read is the text of the class that is answered.

@@ -5,8 +5,8 @@ use Rattle.std.proofs.Common.{inr}
 use Rattle.std.specs.List.{flat_map, All}
 use Rattle.std.proofs.lemmas.Bool.{eqb-true, ltb-true, or_cases}
 use Rattle.std.proofs.lemmas.List.Elements.{All-nil, All-cons}
-use Rattle.classfile.specs.declared.descriptor.Place.{Place}
-use Rattle.classfile.specs.declared.descriptor.Place.TheVariants as places
+use Rattle.classfile.specs.declared.descriptor.ScanState.{ScanState}
+use Rattle.classfile.specs.declared.descriptor.ScanState.TheVariants as states
 use Rattle.classfile.specs.reading.Descriptors.{is_base, step, scan, is_field, is_method, lacks_semicolon}
 use Rattle.classfile.specs.reading.Descriptors.{is_class_name}
 use Rattle.classfile.specs.Grammar.{IsBaseType, IsElementType, IsFieldDescriptor, IsReturnDescriptor}
@@ -29,23 +29,23 @@ record Named (Rest : List ℕ → Type 0) (is_empty : Bool) (text : List ℕ) : 
   spelled : text ≡ name ++ 59 ∷ rest
   after : Rest rest
 
--- what may be left at a place
-abbrev Left : Place → List ℕ → Type 0
-Left places.Open text = IsMethodDescriptor text
-Left (places.Parameter depth) text = depth ≤ 255 → Ends (replicate depth 91 ++ text)
-Left (places.ParameterName is_empty) text = Named Ends is_empty text
-Left (places.Last depth may_be_void) text = depth ≤ 255 → IsFieldDescriptor (replicate depth 91 ++ text)
+-- what may be left at a state
+abbrev Left : ScanState → List ℕ → Type 0
+Left states.Open text = IsMethodDescriptor text
+Left (states.Parameter depth) text = depth ≤ 255 → Ends (replicate depth 91 ++ text)
+Left (states.ParameterName is_empty) text = Named Ends is_empty text
+Left (states.Last depth may_be_void) text = depth ≤ 255 → IsFieldDescriptor (replicate depth 91 ++ text)
     ⊎ ((may_be_void ≡ true) × (text ≡ 86 ∷ []))
-Left (places.LastName is_empty) text = Named (λ rest. rest ≡ []) is_empty text
-Left places.End text = text ≡ []
-Left places.Bad text = ⊥
+Left (states.LastName is_empty) text = Named (λ rest. rest ≡ []) is_empty text
+Left states.End text = text ≡ []
+Left states.Bad text = ⊥
 
-scan_cond_cases : (b : Bool) (x y : Place) (text : List ℕ) → scan (cond b x y) text ≡ true
+scan_cond_cases : (b : Bool) (x y : ScanState) (text : List ℕ) → scan (cond b x y) text ≡ true
     → ((b ≡ true) × (scan x text ≡ true)) ⊎ ((b ≡ false) × (scan y text ≡ true))
 scan_cond_cases true x y text e = inl (refl, e)
 scan_cond_cases false x y text e = inr (refl, e)
 
-bad_scan : (text : List ℕ) → scan places.Bad text ≡ true → ⊥
+bad_scan : (text : List ℕ) → scan states.Bad text ≡ true → ⊥
 unfolding step
 bad_scan [] e = cc
 bad_scan (b ∷ bs) e = bad_scan bs e
@@ -141,22 +141,22 @@ returned_by text (inl field) = inl field
 returned_by text (inr void) = inr void.1
 
 read_to_last : (depth : ℕ) (may_be_void : Bool) (b : ℕ) (text : List ℕ) → depth ≤ 255
-    → scan (places.Last depth may_be_void) (b ∷ text) ≡ true
-    → ((place : Place) → scan place text ≡ true → Left place text)
+    → scan (states.Last depth may_be_void) (b ∷ text) ≡ true
+    → ((state : ScanState) → scan state text ≡ true → Left state text)
     → IsFieldDescriptor (replicate depth 91 ++ b ∷ text) ⊎ ((may_be_void ≡ true) × (b ∷ text ≡ 86 ∷ []))
 unfolding step
 read_to_last depth may_be_void b text le e rest =
-    elim (scan_cond_cases (eqb b 86) (cond may_be_void places.End places.Bad)
-    (cond (eqb b 91) (cond (ltb depth 255) (places.Last (depth + 1) false) places.Bad)
-    (cond (eqb b 76) (places.LastName true) (cond (is_base b) places.End places.Bad))) text e) [
-      | inl void ↦ elim (scan_cond_cases may_be_void places.End places.Bad text void.1) [
-        | inl good ↦ let end' : text ≡ [] = rest places.End good.1 in let b-is = eqb-true b 86 void.0 in
+    elim (scan_cond_cases (eqb b 86) (cond may_be_void states.End states.Bad)
+    (cond (eqb b 91) (cond (ltb depth 255) (states.Last (depth + 1) false) states.Bad)
+    (cond (eqb b 76) (states.LastName true) (cond (is_base b) states.End states.Bad))) text e) [
+      | inl void ↦ elim (scan_cond_cases may_be_void states.End states.Bad text void.1) [
+        | inl good ↦ let end' : text ≡ [] = rest states.End good.1 in let b-is = eqb-true b 86 void.0 in
             inr (good.0, rw (end', b-is) refl)
         | inr bad ↦ absurd (bad_scan text bad.1)
       ]
-      | inr other ↦ elim (scan_cond_cases (eqb b 91) (cond (ltb depth 255) (places.Last (depth + 1) false) places.Bad)
-          (cond (eqb b 76) (places.LastName true) (cond (is_base b) places.End places.Bad)) text other.1) [
-            | inl array ↦ elim (scan_cond_cases (ltb depth 255) (places.Last (depth + 1) false) places.Bad text
+      | inr other ↦ elim (scan_cond_cases (eqb b 91) (cond (ltb depth 255) (states.Last (depth + 1) false) states.Bad)
+          (cond (eqb b 76) (states.LastName true) (cond (is_base b) states.End states.Bad)) text other.1) [
+            | inl array ↦ elim (scan_cond_cases (ltb depth 255) (states.Last (depth + 1) false) states.Bad text
                 array.1) [
                   | inl good ↦
                       let below : depth < 255 = ltb-true depth 255 good.0 in
@@ -164,17 +164,17 @@ read_to_last depth may_be_void b text le e rest =
                       let text-is : replicate (depth + 1) 91 ++ text ≡ replicate depth 91 ++ b ∷ text =
                       deeper depth text
                       ∙ ap (λ (z : ℕ). replicate depth 91 ++ z ∷ text) (sym b-is) in
-                      elim (rest (places.Last (depth + 1) false) good.1 (omega arith)) [
+                      elim (rest (states.Last (depth + 1) false) good.1 (omega arith)) [
                         | inl field ↦ inl (subst IsFieldDescriptor text-is field)
                         | inr void ↦ absurd cc
                       ]
                   | inr bad ↦ absurd (bad_scan text bad.1)
                 ]
-            | inr scalar ↦ elim (scan_cond_cases (eqb b 76) (places.LastName true)
-                (cond (is_base b) places.End places.Bad)
+            | inr scalar ↦ elim (scan_cond_cases (eqb b 76) (states.LastName true)
+                (cond (is_base b) states.End states.Bad)
                 text scalar.1) [
                   | inl object ↦
-                      let n = rest (places.LastName true) object.1 in
+                      let n = rest (states.LastName true) object.1 in
                       let b-is : b ≡ 76 = eqb-true b 76 object.0 in
                       let text-is : 76 ∷ (n.name ++ 59 ∷ []) ≡ b ∷ text =
                       ap (λ (z : List ℕ). 76 ∷ (n.name ++ 59 ∷ z)) (sym n.after)
@@ -183,9 +183,9 @@ read_to_last depth may_be_void b text le e rest =
                       inl (subst P text-is
                       (field_of depth (76 ∷ (n.name ++ 59 ∷ [])) le
                       (named_element n.name (n.not_empty refl) n.no_semicolon)))
-                  | inr plain ↦ elim (scan_cond_cases (is_base b) places.End places.Bad text plain.1) [
+                  | inr plain ↦ elim (scan_cond_cases (is_base b) states.End states.Bad text plain.1) [
                     | inl base ↦
-                        let end' : text ≡ [] = rest places.End base.1 in
+                        let end' : text ≡ [] = rest states.End base.1 in
                         let P : List ℕ → Type 0 = λ z. IsFieldDescriptor (replicate depth 91 ++ b ∷ z) in
                         inl (subst P (sym end') (field_of depth (b ∷ []) le (base_element b base.0)))
                     | inr bad ↦ absurd (bad_scan text bad.1)
@@ -205,25 +205,25 @@ no_parameter text is =
           refl;
     }
 
-read_to_parameter : (depth b : ℕ) (text : List ℕ) → depth ≤ 255 → scan (places.Parameter depth) (b ∷ text) ≡ true
-    → ((place : Place) → scan place text ≡ true → Left place text) → Ends (replicate depth 91 ++ b ∷ text)
+read_to_parameter : (depth b : ℕ) (text : List ℕ) → depth ≤ 255 → scan (states.Parameter depth) (b ∷ text) ≡ true
+    → ((state : ScanState) → scan state text ≡ true → Left state text) → Ends (replicate depth 91 ++ b ∷ text)
 unfolding step
 read_to_parameter depth b text le e rest =
-    elim (scan_cond_cases (eqb b 41) (cond (eqb depth 0) (places.Last 0 true) places.Bad)
-    (cond (eqb b 91) (cond (ltb depth 255) (places.Parameter (depth + 1)) places.Bad)
-    (cond (eqb b 76) (places.ParameterName true) (cond (is_base b) (places.Parameter 0) places.Bad))) text e) [
-      | inl closed ↦ elim (scan_cond_cases (eqb depth 0) (places.Last 0 true) places.Bad text closed.1) [
+    elim (scan_cond_cases (eqb b 41) (cond (eqb depth 0) (states.Last 0 true) states.Bad)
+    (cond (eqb b 91) (cond (ltb depth 255) (states.Parameter (depth + 1)) states.Bad)
+    (cond (eqb b 76) (states.ParameterName true) (cond (is_base b) (states.Parameter 0) states.Bad))) text e) [
+      | inl closed ↦ elim (scan_cond_cases (eqb depth 0) (states.Last 0 true) states.Bad text closed.1) [
         | inl good ↦
             let depth-is : depth ≡ 0 = eqb-true depth 0 good.0 in
             let b-is : b ≡ 41 = eqb-true b 41 closed.0 in
             let text-is : 41 ∷ text ≡ replicate depth 91 ++ b ∷ text = rw (depth-is, b-is) refl in
-            subst Ends text-is (no_parameter text (returned_by text (rest (places.Last 0 true) good.1 (omega arith))))
+            subst Ends text-is (no_parameter text (returned_by text (rest (states.Last 0 true) good.1 (omega arith))))
         | inr bad ↦ absurd (bad_scan text bad.1)
       ]
-      | inr other ↦ elim (scan_cond_cases (eqb b 91) (cond (ltb depth 255) (places.Parameter (depth + 1)) places.Bad)
-          (cond (eqb b 76) (places.ParameterName true) (cond (is_base b) (places.Parameter 0) places.Bad)) text
+      | inr other ↦ elim (scan_cond_cases (eqb b 91) (cond (ltb depth 255) (states.Parameter (depth + 1)) states.Bad)
+          (cond (eqb b 76) (states.ParameterName true) (cond (is_base b) (states.Parameter 0) states.Bad)) text
           other.1) [
-            | inl array ↦ elim (scan_cond_cases (ltb depth 255) (places.Parameter (depth + 1)) places.Bad text
+            | inl array ↦ elim (scan_cond_cases (ltb depth 255) (states.Parameter (depth + 1)) states.Bad text
                 array.1) [
                   | inl good ↦
                       let below : depth < 255 = ltb-true depth 255 good.0 in
@@ -231,42 +231,42 @@ read_to_parameter depth b text le e rest =
                       let text-is : replicate (depth + 1) 91 ++ text ≡ replicate depth 91 ++ b ∷ text =
                       deeper depth text
                       ∙ ap (λ (z : ℕ). replicate depth 91 ++ z ∷ text) (sym b-is) in
-                      subst Ends text-is (rest (places.Parameter (depth + 1)) good.1 (omega arith))
+                      subst Ends text-is (rest (states.Parameter (depth + 1)) good.1 (omega arith))
                   | inr bad ↦ absurd (bad_scan text bad.1)
                 ]
-            | inr scalar ↦ elim (scan_cond_cases (eqb b 76) (places.ParameterName true)
-                (cond (is_base b) (places.Parameter 0) places.Bad) text scalar.1) [
+            | inr scalar ↦ elim (scan_cond_cases (eqb b 76) (states.ParameterName true)
+                (cond (is_base b) (states.Parameter 0) states.Bad) text scalar.1) [
                   | inl object ↦
-                      let n = rest (places.ParameterName true) object.1 in
+                      let n = rest (states.ParameterName true) object.1 in
                       let b-is : b ≡ 76 = eqb-true b 76 object.0 in
                       let text-is : b ∷ text ≡ (76 ∷ (n.name ++ 59 ∷ [])) ++ n.rest = ap (λ (z : ℕ). z ∷ text) b-is
                       ∙ ap (λ (z : List ℕ). 76 ∷ z) n.spelled ∙ name_shape n.name n.rest in
                       parameter_then depth (76 ∷ (n.name ++ 59 ∷ [])) n.rest (b ∷ text) le
                       (named_element n.name (n.not_empty refl) n.no_semicolon) text-is n.after
-                  | inr plain ↦ elim (scan_cond_cases (is_base b) (places.Parameter 0) places.Bad text plain.1) [
+                  | inr plain ↦ elim (scan_cond_cases (is_base b) (states.Parameter 0) states.Bad text plain.1) [
                     | inl base ↦ parameter_then depth (b ∷ []) text (b ∷ text) le (base_element b base.0) refl
-                        (rest (places.Parameter 0) base.1 (omega arith))
+                        (rest (states.Parameter 0) base.1 (omega arith))
                     | inr bad ↦ absurd (bad_scan text bad.1)
                   ]
                 ]
           ]
     ]
 
-scan_left : (text : List ℕ) (place : Place) → scan place text ≡ true → Left place text
+scan_left : (text : List ℕ) (state : ScanState) → scan state text ≡ true → Left state text
 unfolding step
-scan_left [] places.Open e = absurd cc
-scan_left [] (places.Parameter depth) e = absurd cc
-scan_left [] (places.ParameterName is_empty) e = absurd cc
-scan_left [] (places.Last depth may_be_void) e = absurd cc
-scan_left [] (places.LastName is_empty) e = absurd cc
-scan_left [] places.End e = refl
-scan_left [] places.Bad e = absurd cc
-scan_left (b ∷ text) places.End e = absurd (bad_scan text e)
-scan_left (b ∷ text) places.Bad e = absurd (bad_scan text e)
-scan_left (b ∷ text) places.Open e =
-    elim (scan_cond_cases (eqb b 40) (places.Parameter 0) places.Bad text e) [
+scan_left [] states.Open e = absurd cc
+scan_left [] (states.Parameter depth) e = absurd cc
+scan_left [] (states.ParameterName is_empty) e = absurd cc
+scan_left [] (states.Last depth may_be_void) e = absurd cc
+scan_left [] (states.LastName is_empty) e = absurd cc
+scan_left [] states.End e = refl
+scan_left [] states.Bad e = absurd cc
+scan_left (b ∷ text) states.End e = absurd (bad_scan text e)
+scan_left (b ∷ text) states.Bad e = absurd (bad_scan text e)
+scan_left (b ∷ text) states.Open e =
+    elim (scan_cond_cases (eqb b 40) (states.Parameter 0) states.Bad text e) [
       | inl here ↦
-          let ends = scan_left text (places.Parameter 0) here.1 (omega arith) in
+          let ends = scan_left text (states.Parameter 0) here.1 (omega arith) in
           record {
             parameters = ends.parameters;
             returned = ends.returned;
@@ -278,39 +278,39 @@ scan_left (b ∷ text) places.Open e =
           }
       | inr other ↦ absurd (bad_scan text other.1)
     ]
-scan_left (b ∷ text) (places.ParameterName is_empty) e =
-    elim (scan_cond_cases (eqb b 59) (cond is_empty places.Bad (places.Parameter 0)) (places.ParameterName false) text
+scan_left (b ∷ text) (states.ParameterName is_empty) e =
+    elim (scan_cond_cases (eqb b 59) (cond is_empty states.Bad (states.Parameter 0)) (states.ParameterName false) text
     e) [
-      | inl here ↦ elim (scan_cond_cases is_empty places.Bad (places.Parameter 0) text here.1) [
+      | inl here ↦ elim (scan_cond_cases is_empty states.Bad (states.Parameter 0) text here.1) [
         | inl bad ↦ absurd (bad_scan text bad.1)
         | inr good ↦
             let P : Bool → Type 0 = λ z. Named Ends z (b ∷ text) in
             subst P (sym good.0)
-            (name_ends Ends b text here.0 (scan_left text (places.Parameter 0) good.1 (omega arith)))
+            (name_ends Ends b text here.0 (scan_left text (states.Parameter 0) good.1 (omega arith)))
       ]
-      | inr other ↦ longer Ends is_empty b text other.0 (scan_left text (places.ParameterName false) other.1)
+      | inr other ↦ longer Ends is_empty b text other.0 (scan_left text (states.ParameterName false) other.1)
     ]
-scan_left (b ∷ text) (places.LastName is_empty) e =
-    elim (scan_cond_cases (eqb b 59) (cond is_empty places.Bad places.End) (places.LastName false) text e) [
-      | inl here ↦ elim (scan_cond_cases is_empty places.Bad places.End text here.1) [
+scan_left (b ∷ text) (states.LastName is_empty) e =
+    elim (scan_cond_cases (eqb b 59) (cond is_empty states.Bad states.End) (states.LastName false) text e) [
+      | inl here ↦ elim (scan_cond_cases is_empty states.Bad states.End text here.1) [
         | inl bad ↦ absurd (bad_scan text bad.1)
         | inr good ↦
             let P : Bool → Type 0 = λ z. Named (λ rest. rest ≡ []) z (b ∷ text) in
-            subst P (sym good.0) (name_ends (λ rest. rest ≡ []) b text here.0 (scan_left text places.End good.1))
+            subst P (sym good.0) (name_ends (λ rest. rest ≡ []) b text here.0 (scan_left text states.End good.1))
       ]
-      | inr other ↦ longer (λ rest. rest ≡ []) is_empty b text other.0 (scan_left text (places.LastName false) other.1)
+      | inr other ↦ longer (λ rest. rest ≡ []) is_empty b text other.0 (scan_left text (states.LastName false) other.1)
     ]
-scan_left (b ∷ text) (places.Last depth may_be_void) e =
+scan_left (b ∷ text) (states.Last depth may_be_void) e =
     λ le. read_to_last depth may_be_void b text le e (scan_left text)
-scan_left (b ∷ text) (places.Parameter depth) e = λ le. read_to_parameter depth b text le e (scan_left text)
+scan_left (b ∷ text) (states.Parameter depth) e = λ le. read_to_parameter depth b text le e (scan_left text)
 
 -- whether the text is a field's descriptor
 pub field_is : (text : List ℕ) → is_field text ≡ true → IsFieldDescriptor text
 field_is text e =
-    elim (scan_left text (places.Last 0 false) e (omega arith)) [ inl field ↦ field | inr void ↦ absurd cc ]
+    elim (scan_left text (states.Last 0 false) e (omega arith)) [ inl field ↦ field | inr void ↦ absurd cc ]
 
 pub method_is : (text : List ℕ) → is_method text ≡ true → IsMethodDescriptor text
-method_is text e = scan_left text places.Open e
+method_is text e = scan_left text states.Open e
 
 lacks_by : (hit : Bool) (b : ℕ) (text : List ℕ) → eqb b 59 ≡ hit → cond hit false (lacks_semicolon text) ≡ true
     → (lacks_semicolon text ≡ true → All (λ b. b ≢ 59) text) → All (λ b. b ≢ 59) (b ∷ text)

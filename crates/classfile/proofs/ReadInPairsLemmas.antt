@@ -12,7 +12,8 @@ use Rattle.classfile.specs.Gives.{offset}
 use Rattle.classfile.specs.declared.code.Code.{Code}
 use Rattle.classfile.specs.reading.Code.{utf8_index_at, code_of, code_bytes_at, exceptions_at, unread_attributes_at}
 use Rattle.classfile.specs.reading.Code.{code_tables_at, limited_code_at}
-use Rattle.classfile.specs.reading.Members.{descriptor_at, signature_at, is_declared, member_body_at, member_at}
+use Rattle.classfile.specs.reading.Members.{descriptor_at, name_and_descriptor_at, is_declared, member_body_at}
+use Rattle.classfile.specs.reading.Members.{member_at}
 
 then_pair : {A B C : Type 0} (first : Result (A × List ℕ) ClassFault) (second : List ℕ → Result (B × List ℕ) ClassFault)
     (next : (A × B) × List ℕ → Result C ClassFault)
@@ -40,9 +41,9 @@ signed_at kind pool total at earlier flags s =
 
 pub member_in_parts : (kind : MemberKind) (pool : List Constant) (total : ℕ) (earlier : List Member) (bytes : List ℕ)
     → member_at kind pool total earlier bytes
-    ≡ (number_at w16 total bytes >>= λ flags. signature_at kind pool total flags.1 >>= signed_at kind pool total
-    (offset total bytes) earlier flags.0)
-unfolding member_at signature_at
+    ≡ (number_at w16 total bytes >>= λ flags. name_and_descriptor_at kind pool total flags.1 >>= signed_at kind pool
+    total (offset total bytes) earlier flags.0)
+unfolding member_at name_and_descriptor_at
 member_in_parts kind pool total earlier bytes = same_then (number_at w16 total bytes) _ _ (λ flags.
     then_pair (utf8_index_at pool total flags.1) (descriptor_at kind pool total)
     (signed_at kind pool total (offset total bytes) earlier flags.0))

@@ -1,7 +1,6 @@
 -- One index for equal texts: what stays true as texts are asked for.
 use Rattle.std.proofs.Common.{◌≡◌, ◌≢◌, ℕ, ◌<◌, ◌⊎◌, Bool, true, false, cond, ◌&&◌, eqb, arith, List, length, Option}
-use Rattle.std.proofs.Common.{Some, None}
-use Rattle.std.proofs.Common.{slice_get, is_some, unwrap_or, refl, sym, ap, ◌∙◌, inl, inr, Bor}
+use Rattle.std.proofs.Common.{Some, None, slice_get, is_some, unwrap_or, refl, sym, ap, ◌∙◌, inl, inr, Bor}
 use Rattle.std.specs.Str.{bytes_eq}
 use Rattle.std.specs.declared.cmp.Ordering.{Ordering}
 use Rattle.std.specs.Ordering.{nat_cmp, is_eq, ordering_then}
@@ -19,7 +18,7 @@ use Rattle.std.proofs.lemmas.Map.Text.{is_eq-slice_cmp}
 use Rattle.classfile.specs.declared.constant.Constant.{Constant}
 use Rattle.classfile.specs.Lookup.{utf8_in, utf8_of}
 use Rattle.classfile.specs.reading.LookupTests.{has_utf8, equal_utf8s, same_utf8}
-use Rattle.classfile.specs.reading.Earlier.{Utf8Map, utf8_hash, find_utf8, find_after, first_of, AreFirsts, Grows}
+use Rattle.classfile.specs.reading.Earlier.{Utf8Map, utf8_hash, find_utf8, find_after, first_of, AreFirsts}
 
 -- a test says which
 either_way : (b : Bool) → (b ≡ true) ⊎ (b ≡ false)
@@ -85,18 +84,6 @@ inserted_is_found old new hash key index hashed none updates other =
     updates.0 (utf8_hash other, record { ref_ptr = (0, 0); now = other })
     ∙ ap (λ (b : Bool). cond b (Some index) (find_utf8 old other)) same
     ∙ ap (λ (n : ℕ). cond (bytes_eq text other) (Some n) (find_utf8 old other)) (sym first)
-
--- a text that is there already
-pub found_stays : (find : List ℕ → Option ℕ) (text : List ℕ) (index first : ℕ) → find text ≡ Some first
-    → (other : List ℕ) → find other ≡ find_after find text index other
-found_stays find text index first h other =
-    elim (either_way (bytes_eq text other)) [
-      | inl same ↦
-          let e : text ≡ other = (bytes_eq-Decides text other).0 same in
-          let one : find other ≡ Some (unwrap_or (find text) index) = rw (← e, h) refl in
-          one ∙ rw same refl
-      | inr differ ↦ rw differ refl
-    ]
 
 -- the first index of a text, which is found from then on
 pub text_is_found : (find after : List ℕ → Option ℕ) (text : List ℕ) (index : ℕ)
@@ -177,13 +164,6 @@ firsts_after pool firsts find after text index first kept at is inside h =
             (old.0, (old.1.0, stays_found find after text index h old.0 n old.1.1))
       ];
     }
-
--- what was noted stays, and nothing was noted at this index
-pub grows_after : (firsts : List (Option ℕ)) (index first : ℕ) → first_of firsts index ≡ None
-    → Grows firsts (set firsts index (Some first))
-grows_after firsts index first none i n e =
-    let k : i ≢ index = (λ (q : i ≡ index). let there : first_of firsts index ≡ Some n = rw q at e in cc) in
-    get_or-set_other firsts index i (Some first) None k ∙ e
 
 -- Two indices have one first index exactly if they have one text.
 pub same_first : (pool : List Constant) (firsts : List (Option ℕ)) (find : List ℕ → Option ℕ) (i j a b : ℕ)

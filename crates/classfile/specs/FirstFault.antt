@@ -6,7 +6,7 @@ use Rattle.classfile.specs.declared.fault.ClassFault.{ClassFault}
 use Rattle.classfile.specs.declared.fault.ClassFault.TheVariants as faults
 use Rattle.classfile.specs.declared.constant.Constant.{Constant}
 use Rattle.classfile.specs.declared.constant.Constant.TheVariants as constants
-use Rattle.classfile.specs.declared.declaration.Declaration.{Declaration}
+use Rattle.classfile.specs.declared.header.Header.{Header}
 use Rattle.classfile.specs.declared.attribute.Attribute.{Attribute}
 use Rattle.classfile.specs.declared.attribute.Owner.{Owner}
 use Rattle.classfile.specs.declared.attribute.Owner.TheVariants as owners
@@ -184,25 +184,25 @@ IsThisClass pool index = IsIndexOf (IsClassNamed IsNoArray pool) pool index
 abbrev pub IsSuperClass : List Constant → ℕ → Type 0
 IsSuperClass pool index = (index ≡ 0) ⊎ IsIndexOf IsClass pool index
 
-abbrev pub declaration_text : Declaration → List ℕ
-declaration_text d = u2 d.access_flags ++ (u2 d.this_class ++ (u2 d.super_class ++ table_text u2 d.interfaces))
+abbrev pub header_text : Header → List ℕ
+header_text d = u2 d.access_flags ++ (u2 d.this_class ++ (u2 d.super_class ++ table_text u2 d.interfaces))
 
 -- their text
-pub record IsDeclaration (pool : List Constant) (d : Declaration) (text : List ℕ) : Type 0 where
+pub record IsHeader (pool : List Constant) (d : Header) (text : List ℕ) : Type 0 where
   pub access_flags : d.access_flags < 2 ^ 16
   pub this_class : IsThisClass pool d.this_class
   pub super_class : IsSuperClass pool d.super_class
   pub interface_count : length d.interfaces < 2 ^ 16
   pub interfaces : All (IsIndexOf IsClass pool) d.interfaces
-  pub spelled : text ≡ declaration_text d
+  pub spelled : text ≡ header_text d
 
 abbrev pub InterfacesFail : List Constant → ℕ → List ℕ → ClassFault → Type 0
 InterfacesFail pool total =
     TableFails (IsItem u2 (IsIndexOf IsClass pool) Anything) (λ earlier. IndexFails (IsIndexOf IsClass pool) total)
     total
 
-abbrev pub DeclarationFails : List Constant → ℕ → List ℕ → ClassFault → Type 0
-DeclarationFails pool total =
+abbrev pub HeaderFails : List Constant → ℕ → List ℕ → ClassFault → Type 0
+HeaderFails pool total =
     Either (Number w16) (CutNumber w16 total) (λ flags.
     Either (IndexOf (IsThisClass pool)) (IndexFails (IsThisClass pool) total) (λ this.
     Either (IndexOf (IsSuperClass pool)) (IndexFails (IsSuperClass pool) total) (λ super.
@@ -318,7 +318,7 @@ PartsFail total =
     Either IsMagic (MagicFails total) (λ magic.
     Either IsVersion (VersionFails total) (λ version.
     Either IsPoolText (PoolFails total) (λ pool.
-    Either (IsDeclaration pool) (DeclarationFails pool total) (λ declaration.
+    Either (IsHeader pool) (HeaderFails pool total) (λ header.
     Either (IsMembers kinds.Field pool) (MembersFail kinds.Field pool total) (λ fields.
     Either (IsMembers kinds.Method pool) (MembersFail kinds.Method pool total) (λ methods.
     AttributesFail pool owners.Class total))))))

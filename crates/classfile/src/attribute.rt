@@ -276,7 +276,7 @@ pub(crate) fn attributes_at<'a>(
     Ok((Attributes { items }, rest))
 }
 
-/// Reads so many attributes after those that stand before.
+/// Reads `count` attributes after those that stand before.
 fn push_attributes_at<'a>(
     alloc: Global,
     pool: &[Constant],

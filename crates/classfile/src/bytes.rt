@@ -6,7 +6,7 @@ use smallvec::SmallVec;
 use std::alloc::{AllocError, Global};
 use std::marker::Model;
 
-/// A run of so many bytes at most stands in its attribute, and needs no allocation.
+/// The longest run of bytes that stands in its attribute, and needs no allocation.
 const SHORT: usize = 24;
 
 /// Bytes, seen as their list.

@@ -103,28 +103,28 @@ impl ClassFile {
     pub fn access_flags(&self) -> u16
         ensures { result ≡ self.now.access_flags }
     {
-        self.raw.declaration.access_flags
+        self.raw.header.access_flags
     }
 
     /// The index of the class's own Class, which is no array.
     pub fn this_class(&self) -> u16
         ensures { result ≡ self.now.this_class }
     {
-        self.raw.declaration.this_class
+        self.raw.header.this_class
     }
 
     /// The index of the superclass's Class, or 0.
     pub fn super_class(&self) -> u16
         ensures { result ≡ self.now.super_class }
     {
-        self.raw.declaration.super_class
+        self.raw.header.super_class
     }
 
     /// The indices of the direct superinterfaces' Classes, in the file's order.
     pub fn interfaces(&self) -> &[u16]
         ensures { result.now ≡ self.now.interfaces }
     {
-        self.raw.declaration.interfaces.as_slice()
+        self.raw.header.interfaces.as_slice()
     }
 
     /// The fields, in the file's order: at most 65,535.

@@ -52,7 +52,7 @@ fn code_bytes_at(
     Ok((code, rest))
 }
 
-/// The tables after code of so many bytes.
+/// The tables after code of `code_length` bytes.
 #[tactic(auto, unfolding(crate::specs::reading::Code::code_tables_at))]
 fn code_tables_at<'a>(
     alloc: Global,

@@ -6,7 +6,7 @@ use smallvec::SmallVec;
 use std::alloc::{AllocError, Global};
 use std::marker::Model;
 
-/// Code of so many bytes at most stands in its attribute, and needs no allocation.
+/// The longest code that stands in its attribute, and needs no allocation.
 const SHORT: usize = 24;
 
 /// The bytes of a method's code, fewer than 65,536 of them (JVMS 4.7.3), seen as their list.

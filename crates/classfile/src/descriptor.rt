@@ -5,16 +5,16 @@ ghost use Rattle.classfile.specs.Grammar.{IsMethodDescriptor};
 ghost use Rattle.classfile.specs.reading.Descriptors.{is_base, step, scan, is_field, is_method, is_class_name};
 ghost use Rattle.classfile.specs.reading.Descriptors.{lacks_semicolon};
 
-/// What may stand next in a descriptor.
+/// A state of the scan of a descriptor: what may stand next.
 #[derive(Clone, Copy, Drop)]
-pub(crate) enum Place {
+pub(crate) enum ScanState {
     /// The bracket before the parameters.
     Open,
-    /// A type after so many `[`, or the end of the parameters.
+    /// A type after `depth` `[`, or the end of the parameters.
     Parameter { depth: u8 },
     /// A parameter's class name.
     ParameterName { is_empty: bool },
-    /// The last type, after so many `[`.
+    /// The last type, after `depth` `[`.
     Last { depth: u8, may_be_void: bool },
     LastName { is_empty: bool },
     End,
@@ -29,88 +29,88 @@ fn is_base(byte: u8) -> bool
 }
 
 #[tactic(auto, unfolding(crate::specs::reading::Descriptors::step))]
-fn parameter_step(depth: u8, byte: u8) -> Place
-    ensures { result ≡ step (Place.Parameter depth) byte }
+fn parameter_step(depth: u8, byte: u8) -> ScanState
+    ensures { result ≡ step (ScanState.Parameter depth) byte }
 {
     match byte {
-        b')' if depth == 0 => Place::Last {
+        b')' if depth == 0 => ScanState::Last {
             depth: 0,
             may_be_void: true,
         },
-        b'[' if depth < 255 => Place::Parameter { depth: depth + 1 },
-        b'L' => Place::ParameterName { is_empty: true },
-        _ if is_base(byte) => Place::Parameter { depth: 0 },
-        _ => Place::Bad,
+        b'[' if depth < 255 => ScanState::Parameter { depth: depth + 1 },
+        b'L' => ScanState::ParameterName { is_empty: true },
+        _ if is_base(byte) => ScanState::Parameter { depth: 0 },
+        _ => ScanState::Bad,
     }
 }
 
 #[tactic(auto, unfolding(crate::specs::reading::Descriptors::step))]
-fn last_step(depth: u8, may_be_void: bool, byte: u8) -> Place
-    ensures { result ≡ step (Place.Last depth may_be_void) byte }
+fn last_step(depth: u8, may_be_void: bool, byte: u8) -> ScanState
+    ensures { result ≡ step (ScanState.Last depth may_be_void) byte }
 {
     match byte {
-        b'V' if may_be_void => Place::End,
-        b'[' if depth < 255 => Place::Last {
+        b'V' if may_be_void => ScanState::End,
+        b'[' if depth < 255 => ScanState::Last {
             depth: depth + 1,
             may_be_void: false,
         },
-        b'L' => Place::LastName { is_empty: true },
-        _ if is_base(byte) => Place::End,
-        _ => Place::Bad,
+        b'L' => ScanState::LastName { is_empty: true },
+        _ if is_base(byte) => ScanState::End,
+        _ => ScanState::Bad,
     }
 }
 
-/// One more byte of a class name, which a `;` ends: then comes the place `after`, if the name isn't empty.
-fn name_step(is_empty: bool, inside: Place, after: Place, byte: u8) -> Place
-    ensures { result ≡ (if byte == 59 then (if is_empty then Place.Bad else after) else inside) }
+/// One more byte of a class name, which a `;` ends: then comes the state `after`, if the name isn't empty.
+fn name_step(is_empty: bool, inside: ScanState, after: ScanState, byte: u8) -> ScanState
+    ensures { result ≡ (if byte == 59 then (if is_empty then ScanState.Bad else after) else inside) }
 {
     match byte {
-        b';' if is_empty => Place::Bad,
+        b';' if is_empty => ScanState::Bad,
         b';' => after,
         _ => inside,
     }
 }
 
 #[tactic(auto, unfolding(crate::specs::reading::Descriptors::step))]
-fn step(place: Place, byte: u8) -> Place
-    ensures { result ≡ step place byte }
+fn step(state: ScanState, byte: u8) -> ScanState
+    ensures { result ≡ step state byte }
 {
-    match place {
-        Place::Open if byte == b'(' => Place::Parameter { depth: 0 },
-        Place::Parameter { depth } => parameter_step(depth, byte),
-        Place::ParameterName { is_empty } => {
-            let inside = Place::ParameterName { is_empty: false };
-            name_step(is_empty, inside, Place::Parameter { depth: 0 }, byte)
+    match state {
+        ScanState::Open if byte == b'(' => ScanState::Parameter { depth: 0 },
+        ScanState::Parameter { depth } => parameter_step(depth, byte),
+        ScanState::ParameterName { is_empty } => {
+            let inside = ScanState::ParameterName { is_empty: false };
+            name_step(is_empty, inside, ScanState::Parameter { depth: 0 }, byte)
         }
-        Place::Last { depth, may_be_void } => last_step(depth, may_be_void, byte),
-        Place::LastName { is_empty } => {
-            let inside = Place::LastName { is_empty: false };
-            name_step(is_empty, inside, Place::End, byte)
+        ScanState::Last { depth, may_be_void } => last_step(depth, may_be_void, byte),
+        ScanState::LastName { is_empty } => {
+            let inside = ScanState::LastName { is_empty: false };
+            name_step(is_empty, inside, ScanState::End, byte)
         }
-        Place::Open | Place::End | Place::Bad => Place::Bad,
+        ScanState::Open | ScanState::End | ScanState::Bad => ScanState::Bad,
     }
 }
 
-/// Whether the bytes lead from a place to the end. Nothing does from a bad place.
+/// Whether the bytes lead from a state to the end. Nothing does from a bad state.
 #[tactic(auto, using(crate::proofs::DescriptorsLemmas::bad_stays_bad))]
-fn scan(place: Place, bytes: &[u8]) -> bool
-    ensures { result ≡ scan place bytes.now }
+fn scan(state: ScanState, bytes: &[u8]) -> bool
+    ensures { result ≡ scan state bytes.now }
 {
-    let mut place = place;
+    let mut state = state;
     for byte in bytes {
-        if matches!(place, Place::Bad) {
+        if matches!(state, ScanState::Bad) {
             return false;
         }
-        place = step(place, *byte);
+        state = step(state, *byte);
     }
-    matches!(place, Place::End)
+    matches!(state, ScanState::End)
 }
 
 pub(crate) fn is_field(bytes: &[u8]) -> bool
     ensures { result ≡ is_field bytes.now }
 {
     scan(
-        Place::Last {
+        ScanState::Last {
             depth: 0,
             may_be_void: false,
         },
@@ -121,7 +121,7 @@ pub(crate) fn is_field(bytes: &[u8]) -> bool
 pub(crate) fn is_method(bytes: &[u8]) -> bool
     ensures { result ≡ is_method bytes.now }
 {
-    scan(Place::Open, bytes)
+    scan(ScanState::Open, bytes)
 }
 
 /// Whether a text is a method descriptor (JVMS 4.3.3).

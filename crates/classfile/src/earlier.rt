@@ -13,7 +13,7 @@ use crate::member::Member;
 use std::alloc::{AllocError, Global};
 use std::collections::{BTreeMap, BTreeSet};
 
-/// Of a table of so many members at most, each is compared with those before.
+/// The longest table of which each member is compared with those before.
 const FEW: u16 = 8;
 
 /// The members so far.
@@ -29,7 +29,7 @@ pub(crate) struct Earlier<'a> {
 pub(crate) struct SignatureIndex<'a> {
     /// By index of the pool: the first index of the same text, once it was asked for.
     firsts: Vec<Option<u16>>,
-    /// The same by text. A number of the text stands before it, since numbers are compared faster.
+    /// By text: its first index. A number of the text stands before it, since numbers are compared faster.
     by_utf8: BTreeMap<(u64, &'a [u8]), u16>,
     /// The first indices of each member's name and descriptor.
     pairs: BTreeSet<(u16, u16)>,
@@ -106,7 +106,7 @@ fn first_at<'a>(
 }
 
 impl<'a> SignatureIndex<'a> {
-    /// That of no members.
+    /// The index of no members.
     fn new(alloc: Global, pool: &'a [Constant]) -> Result<Self, AllocError>
         ensures { IfOk result (λ index. FindsIn pool.now index []) }
     {
@@ -135,7 +135,7 @@ impl<'a> SignatureIndex<'a> {
     }
 }
 
-/// The index of a table of so many members, if it wants one.
+/// The index of a table of `count` members, if it wants one.
 fn index_for<'a>(
     alloc: Global,
     pool: &'a [Constant],
@@ -150,7 +150,7 @@ fn index_for<'a>(
 }
 
 impl<'a> Earlier<'a> {
-    /// No members yet, of a table of so many. There is room for `room` of them.
+    /// No members yet, of a table of `count`. There is room for `room` of them.
     pub(crate) fn new(
         alloc: Global,
         pool: &'a [Constant],

@@ -46,7 +46,7 @@ impl ExceptionTable {
     }
 }
 
-/// Whether a handler's range and its handler lie in code of so many bytes, and its type is a class.
+/// Whether a handler's range and its handler lie in code of `code_length` bytes, and its type is a class.
 fn is_handler(pool: &[Constant], code_length: usize, handler: &ExceptionHandler) -> bool
     ensures { result ≡ is_handler pool.now code_length handler.now }
 {
@@ -89,7 +89,7 @@ fn handler_at<'a>(
     Ok((handler, rest))
 }
 
-/// The exception table of code of so many bytes.
+/// The exception table of code of `code_length` bytes.
 #[tactic(auto, unfolding(crate::specs::reading::Code::exceptions_at))]
 pub(crate) fn exceptions_at<'a>(
     alloc: Global,
@@ -106,7 +106,7 @@ pub(crate) fn exceptions_at<'a>(
     Ok((ExceptionTable { items }, rest))
 }
 
-/// Reads so many exception table entries after those that stand before.
+/// Reads `count` exception table entries after those that stand before.
 fn push_handlers_at<'a>(
     pool: &[Constant],
     code_length: usize,

@@ -44,7 +44,7 @@ pub enum ClassFault {
 }
 
 impl ClassFault {
-    /// The same for a fault inside the attribute at `at`; that memory ran out stays what it is.
+    /// The fault of an attribute at `at` inside which this one was found; that memory ran out stays what it is.
     pub(crate) fn inside_attribute(self, at: usize) -> ClassFault
         ensures { result ≡ inside_attribute self at }
     {

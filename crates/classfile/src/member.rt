@@ -6,7 +6,7 @@ ghost use Rattle.classfile.specs.Members.{code_among, value_among};
 ghost use Rattle.classfile.specs.Gives.{Gives};
 ghost use Rattle.classfile.specs.reading.Repeat.{repeat_at};
 ghost use Rattle.classfile.specs.reading.LookupTests.{has_utf8};
-ghost use Rattle.classfile.specs.reading.Members.{has_descriptor, descriptor_at, signature_at};
+ghost use Rattle.classfile.specs.reading.Members.{has_descriptor, descriptor_at, name_and_descriptor_at};
 ghost use Rattle.classfile.specs.Members.{owner_of};
 ghost use Rattle.classfile.specs.reading.Members.{lacks_code, member_body_at, member_at, counted_members_at};
 ghost use Rattle.classfile.specs.reading.Members.{members_at};
@@ -118,27 +118,27 @@ fn descriptor_at<'a>(
 
 /// The indices of a member's name and descriptor.
 #[derive(Clone, Copy)]
-struct Signature {
+struct NameAndDescriptor {
     name: u16,
     descriptor: u16,
 }
 
 /// A member's name and descriptor.
-#[tactic(auto, unfolding(crate::specs::reading::Members::signature_at))]
-fn signature_at<'a>(
+#[tactic(auto, unfolding(crate::specs::reading::Members::name_and_descriptor_at))]
+fn name_and_descriptor_at<'a>(
     kind: MemberKind,
     pool: &ConstantPool,
     total: usize,
     bytes: &'a [u8],
-) -> Result<(Signature, &'a [u8]), ClassFault>
+) -> Result<(NameAndDescriptor, &'a [u8]), ClassFault>
     ensures read { Gives (λ x. ((x.0.name, x.0.descriptor), x.1.now)) result
-        (signature_at kind pool.now total bytes.now) }
+        (name_and_descriptor_at kind pool.now total bytes.now) }
     ensures texts { IfOk result (λ x.
         (has_utf8 pool.now x.0.name ≡ true) × (has_utf8 pool.now x.0.descriptor ≡ true)) }
 {
     let (name, rest) = utf8_index_at(pool.as_slice(), total, bytes)?;
     let (descriptor, rest) = descriptor_at(kind, pool, total, rest)?;
-    Ok((Signature { name, descriptor }, rest))
+    Ok((NameAndDescriptor { name, descriptor }, rest))
 }
 
 fn owner_of(kind: MemberKind, access_flags: u16, descriptor: u16) -> Owner
@@ -210,7 +210,9 @@ fn member_at<'p, 'a>(
 {
     let at = total.saturating_sub(bytes.len());
     let (access_flags, rest) = u16_at(total, bytes)?;
-    let (Signature { name, descriptor }, rest) = signature_at(kind, pool, total, rest)?;
+    let (NameAndDescriptor { name, descriptor }, rest) = name_and_descriptor_at(
+        kind, pool, total, rest,
+    )?;
     if is_declared(pool.as_slice(), earlier, name, descriptor)? {
         return Err(ClassFault::Index { at });
     }
@@ -242,7 +244,7 @@ pub(crate) fn members_at<'a>(
     counted_members_at(alloc, kind, pool, total, count, rest)
 }
 
-/// So many members.
+/// The first `count` members of a table.
 fn counted_members_at<'a>(
     alloc: Global,
     kind: MemberKind,
@@ -259,7 +261,7 @@ fn counted_members_at<'a>(
     Ok((Members { items }, rest))
 }
 
-/// Reads so many members after those that stand before.
+/// Reads `count` members after those that stand before.
 fn push_members_at<'p, 'a>(
     alloc: Global,
     kind: MemberKind,

@@ -10,7 +10,7 @@ use smallvec::SmallVec;
 use std::alloc::{AllocError, Global};
 use std::marker::Model;
 
-/// A text of so many bytes at most stands in its constant, and needs no allocation.
+/// The longest text that stands in its constant, and needs no allocation, in bytes.
 const SHORT: usize = 24;
 
 /// Bytes that are modified UTF-8: each 16-bit unit in its one spelling.

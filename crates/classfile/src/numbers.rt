@@ -54,14 +54,14 @@ pub(crate) fn u32_at(total: usize, bytes: &[u8]) -> Result<(u32, &[u8]), ClassFa
     Ok((BigEndian::read_u32(front), rest))
 }
 
-/// Room for so many items, and no more than the bytes can hold.
+/// Room for `count` items, and no more than the bytes can hold.
 pub(crate) fn room_for(count: u16, bytes: &[u8]) -> usize
     ensures { result ≤ count }
 {
     usize::from(count).min(bytes.len())
 }
 
-/// That many bytes.
+/// The next `count` bytes.
 pub(crate) fn run_at(total: usize, count: usize, bytes: &[u8]) -> Result<(&[u8], &[u8]), ClassFault>
     ensures { Gives (λ x. (x.0.now, x.1.now)) result (run_at count total bytes.now) }
 {

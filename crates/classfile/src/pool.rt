@@ -12,7 +12,7 @@ use crate::checks::check_all;
 use crate::constant::Constant;
 use crate::constants_reading::constants_at;
 use crate::fault::ClassFault;
-use crate::forms::{Form, forms_of};
+use crate::forms::{TextForm, forms_of};
 use crate::numbers::u16_at;
 use std::alloc::{AllocError, Global};
 use std::marker::Model;
@@ -23,7 +23,7 @@ use std::marker::Model;
 pub struct ConstantPool {
     constants: Vec<Constant>,
     /// What each text is, so that none is looked through twice.
-    forms: Vec<Form>,
+    forms: Vec<TextForm>,
 }
 
 impl Model for ConstantPool {
@@ -53,7 +53,7 @@ impl ConstantPool {
         Ok(ConstantPool { constants, forms })
     }
 
-    fn form(&self, index: u16) -> Option<Form>
+    fn form(&self, index: u16) -> Option<TextForm>
         ensures { result ≡ option_map form_of (slice_get self.now index) }
     {
         self.forms.get(usize::from(index)).copied()
@@ -64,7 +64,7 @@ impl ConstantPool {
     pub(crate) fn is_field(&self, index: u16) -> bool
         ensures { result ≡ passes is_field (utf8_of self.now index) }
     {
-        matches!(self.form(index), Some(Form { is_field: true, .. }))
+        matches!(self.form(index), Some(TextForm { is_field: true, .. }))
     }
 
     /// Whether the descriptor of a method stands at an index (JVMS 4.3.3).
@@ -74,7 +74,7 @@ impl ConstantPool {
     {
         matches!(
             self.form(index),
-            Some(Form {
+            Some(TextForm {
                 is_method: true,
                 ..
             })
@@ -88,7 +88,7 @@ impl ConstantPool {
     {
         matches!(
             self.form(index),
-            Some(Form {
+            Some(TextForm {
                 is_class_name: true,
                 ..
             })
@@ -115,7 +115,7 @@ pub(crate) fn pool_at(
     checked_at(alloc, total, count, rest)
 }
 
-/// So many constants, checked against one another.
+/// The constants of a pool of this count, checked against one another.
 fn checked_at(
     alloc: Global,
     total: usize,

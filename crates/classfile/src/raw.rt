@@ -8,8 +8,8 @@ ghost use Rattle.classfile.specs.reading.Class.{magic_at, version_at, methods_an
 ghost use Rattle.classfile.specs.reading.Class.{class_body_at, contents_at, class_at, class_of};
 
 use crate::attribute::{Attributes, Owner, attributes_at};
-use crate::declaration::{Declaration, declaration_at};
 use crate::fault::ClassFault;
+use crate::header::{Header, header_at};
 use crate::member::{MemberKind, Members, members_at};
 use crate::numbers::{u16_pair_at, u32_at};
 use crate::pool::{ConstantPool, pool_at};
@@ -20,7 +20,7 @@ use std::marker::Model;
 #[derive(Drop)]
 pub(crate) struct RawClassFile {
     pub(crate) constants: ConstantPool,
-    pub(crate) declaration: Declaration,
+    pub(crate) header: Header,
     pub(crate) fields: Members,
     pub(crate) methods: Members,
     pub(crate) attributes: Attributes,
@@ -32,7 +32,7 @@ impl Model for RawClassFile {
 
     ghost Value = { ClassFile };
 
-    ghost view = { λ c. class_file_of c.constants c.declaration c.fields c.methods c.attributes };
+    ghost view = { λ c. class_file_of c.constants c.header c.fields c.methods c.attributes };
 }
 
 #[tactic(auto, unfolding(crate::specs::reading::Class::magic_at))]
@@ -97,16 +97,16 @@ fn tables_at<'a>(
 fn class_body_at<'a>(
     alloc: Global,
     constants: ConstantPool,
-    declaration: Declaration,
+    header: Header,
     total: usize,
     bytes: &'a [u8],
 ) -> Result<(RawClassFile, &'a [u8]), ClassFault>
-    ensures { Gives (λ x. (x.0, x.1.now)) result (class_body_at constants declaration total bytes.now) }
+    ensures { Gives (λ x. (x.0, x.1.now)) result (class_body_at constants header total bytes.now) }
 {
     let ((fields, (methods, attributes)), rest) = tables_at(alloc, &constants, total, bytes)?;
     let class = RawClassFile {
         constants,
-        declaration,
+        header,
         fields,
         methods,
         attributes,
@@ -125,8 +125,8 @@ fn contents_at(
     ensures { Gives (λ x. (x.0, x.1.now)) result (contents_at total bytes.now) }
 {
     let (constants, rest) = pool_at(alloc, total, bytes)?;
-    let (declaration, rest) = declaration_at(alloc, constants.as_slice(), total, rest)?;
-    class_body_at(alloc, constants, declaration, total, rest)
+    let (header, rest) = header_at(alloc, constants.as_slice(), total, rest)?;
+    class_body_at(alloc, constants, header, total, rest)
 }
 
 #[tactic(auto, unfolding(crate::specs::reading::Class::class_at, crate::specs::reading::Class::contents_at))]

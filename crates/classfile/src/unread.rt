@@ -62,7 +62,7 @@ pub(crate) fn utf8_index_at<'a>(
     Ok((index, rest))
 }
 
-/// A length, and so many bytes.
+/// A length, and as many bytes.
 #[tactic(auto, unfolding(crate::specs::reading::Code::content_at))]
 fn content_at(total: usize, bytes: &[u8]) -> Result<(&[u8], &[u8]), ClassFault>
     ensures { Gives (λ x. (x.0.now, x.1.now)) result (content_at total bytes.now) }
@@ -115,7 +115,7 @@ pub(crate) fn unread_attributes_at<'a>(
     Ok((UnreadAttributes { items }, rest))
 }
 
-/// Reads so many attributes after those that stand before.
+/// Reads `count` attributes after those that stand before.
 fn push_unread_at<'a>(
     alloc: Global,
     pool: &[Constant],

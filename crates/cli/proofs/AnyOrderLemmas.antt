@@ -3,7 +3,7 @@ use Rattle.std.proofs.Common.{◌≡◌, ℕ, List, subst}
 use Rattle.std.specs.List.Sorted.{IsPermutation}
 use Rattle.classfile.specs.ClassFile.{ClassFile}
 use Rattle.classfile.specs.Class.{IsClassText}
-use Rattle.one_program.proofs.ProgramsLemmas.{one_program_of_files, still_fail, still_family, still_link}
+use Rattle.program.proofs.OneProgramLemmas.{one_program_of_files, still_fail, still_family, still_link}
 use Rattle.cli.specs.AnyOrder.{OneProgram, StillNotLinked, StillProgram}
 use Rattle.cli.specs.Runs.{AreClassFiles, link}
 use Rattle.cli.proofs.OneRefusalLemmas.{same_files}

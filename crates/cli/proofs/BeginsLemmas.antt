@@ -1,11 +1,9 @@
 -- What a run begins with.
 use Rattle.std.proofs.Common.{◌≡◌, ℕ, List, Option, Result, Ok, Err, IfOk, sym, subst}
 use Rattle.semantics.specs.Worlds.{World}
-use Rattle.program.specs.Programs.{IsProgram}
 use Rattle.program.specs.Tables.{Tables}
 use Rattle.object_graph.specs.Images.{ImageTables}
 use Rattle.init_engine.specs.Starts.{IsStart}
-use Rattle.image_reader.specs.Starts.{IsImageStart}
 use Rattle.command_line.specs.Requests.{texts}
 use Rattle.command_line.specs.declared.request.Lazy.{Lazy}
 use Rattle.command_line.specs.declared.request.Request.TheVariants as requests
@@ -15,8 +13,7 @@ use Rattle.cli.specs.declared.status.Status.{Status}
 use Rattle.cli.specs.Begins.{IsBegun, IsBegunFromImage}
 use Rattle.cli.specs.Done.{HasEndedByTurns, HasEndedWithJournal, HasRunImage, HasRunLazily}
 use Rattle.cli.specs.Entries.{entry_names}
-use Rattle.cli.specs.Files.{AreBytesOf, AreTextsOf, Contents}
-use Rattle.cli.specs.ImageRuns.{IsSomeTextOf}
+use Rattle.cli.specs.Files.{AreTextsOf, Contents}
 use Rattle.cli.specs.Running.{IsCutShort, IsOfRun}
 use Rattle.cli.specs.Runs.{IsProgramOf}
 
@@ -34,15 +31,6 @@ module _ {S E : Type 0} (world : S → World) (holds : Contents) where
   begun words program files (Ok s) held is start =
       record { files = files; held = held; program = is; start = start }
   begun words program files (Err e) held is start = tt
-
-  pub begun_from_image : (name list : List ℕ) (image : S → ImageTables) (bytes : List ℕ) (r : Result S E)
-      → AreBytesOf (holds name) bytes → IfOk r (λ s. IsSomeTextOf bytes (image s))
-      → IfOk r (λ s. IsProgram (image s).program)
-      → IfOk r (λ s. IsImageStart (image s) (entry_names list) (world s))
-      → IfOk r (λ s. IsBegunFromImage holds name list (image s) (world s))
-  begun_from_image name list image bytes (Ok s) held is program start =
-      record { bytes = bytes; held = held; text = is; program = program; start = start }
-  begun_from_image name list image bytes (Err e) held is program start = tt
 
 -- ---- runs from there
 

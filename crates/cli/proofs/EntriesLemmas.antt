@@ -18,6 +18,7 @@ use Rattle.init_engine.specs.Starts.{AreEntries, EntriesFail, IsAtFault, IsCount
 use Rattle.init_engine.specs.Starts.{IsFirstAtFault, StandForEntries}
 use Rattle.init_engine.specs.Starts as starts
 use Rattle.cli.proofs.OneRefusalLemmas.{kept}
+use Rattle.program.proofs.OneFamilyLemmas.{number_of_name}
 
 -- ---- the class of a name
 
@@ -49,17 +50,6 @@ found (class ∷ family) name = elim (same_name class name) [
   | inr other ↦ further class family name other (found family name)
 ]
 
--- a name is that of one given class
-one_class : (family : Family) → IsFamily family → (name : List ℕ) (c d : ℕ) → name_in family c ≡ Some name
-    → name_in family d ≡ Some name → c ≡ d
-one_class family fits name c d at-c at-d = elim (one_of_three c d) [
-  | inl less ↦ absurd (precedes_not_same name name (fits.ascending c d name name less at-c at-d) refl)
-  | inr rest ↦ elim rest [
-    | inl same ↦ same
-    | inr more ↦ absurd (precedes_not_same name name (fits.ascending d c name name more at-d at-c) refl)
-  ]
-]
-
 -- ---- one entry
 
 abbrev Told : Tables → List ℕ → ℕ → Type 0
@@ -82,7 +72,7 @@ module _ (P : Tables) (fits : IsFamily P.family) where
       → ⊥
   not_at_fault {c = c} is (starts.unknown none) = none c is.named
   not_at_fault {name = name} {c = c} is (starts.no_main d named none) =
-      let same : c ≡ d = one_class P.family fits (units_text name) c d is.named named in
+      let same : c ≡ d = number_of_name P.family fits (units_text name) c d is.named named in
       let gone : main_in P c ≡ None = ap (λ (k : ℕ). main_in P k) same ∙ none in
       (let clash = ap is_some gone in let here = is.main in cc)
 

@@ -2,9 +2,7 @@
 use Rattle.std.proofs.Common.{◌≡◌, ◌≢◌, ◌⊎◌, inl, inr, ℕ, zero, suc, ◌<◌, Bool, true, false, List, [], ◌∷◌, ◌++◌}
 use Rattle.std.proofs.Common.{length, Option, Some, None, refl, sym, ap, subst, ◌∙◌, arith}
 use Rattle.std.specs.List.{Contains, AllByRecursion}
-use Rattle.std.specs.Str.{bytes_eq}
 use Rattle.std.proofs.lemmas.List.Elements.{Contains-append_left, Contains-append_right, recursion_from_All}
-use Rattle.std.proofs.lemmas.Slice.Eq.{bytes_eq-Decides}
 use Rattle.built_in.specs.declared.class_id.ClassId.{ClassId}
 use Rattle.built_in.specs.declared.class_id.ClassId.TheVariants as class
 use Rattle.built_in.specs.declared.class_id.BuiltIn.{BuiltIn}
@@ -37,15 +35,9 @@ use Rattle.initializer_analysis.proofs.ReachesLemmas.{decided_in}
 use Rattle.initializer_analysis.proofs.ReachesLemmas.{decided_below, in_first, in_rest, first_or_rest, in_none, Through}
 use Rattle.initializer_analysis.proofs.AcyclicLemmas.{numbers, IsAcyclic}
 use Rattle.initializer_analysis.proofs.AcyclicLemmas.{height, height_above}
+use Rattle.building.proofs.BuiltOrFaultLemmas.{same_bytes}
 
 -- ---- members of built-in classes
-
-pub same_bytes : (a b : List ℕ) → Decided (a ≡ b)
-same_bytes a b = by (bytes_eq a b) refl
-  where
-    by : (t : Bool) → bytes_eq a b ≡ t → Decided (a ≡ b)
-    by true e = inl ((bytes_eq-Decides a b).0 e)
-    by false e = inr (λ is. let on = (bytes_eq-Decides a b).1 is in cc)
 
 same_key : (a b : NameAndType) → Decided (a ≡ b)
 same_key a b =

@@ -63,8 +63,9 @@ use Rattle.image_parser.specs.reading.ClassNames.{class_of}
 use Rattle.image_parser.proofs.ClassNameLemmas.{stands}
 use Rattle.initializer_analysis.proofs.ReachesLemmas.{Decided, decided_as, decided_among, in_first, in_rest}
 use Rattle.initializer_analysis.proofs.ReachesLemmas.{first_or_rest, in_none}
-use Rattle.cli.proofs.HasMembersLemmas.{same_bytes, order_of, field_of, method_of}
+use Rattle.cli.proofs.HasMembersLemmas.{order_of, field_of, method_of}
 use Rattle.hierarchy.proofs.TopsLemmas.{there_is as one_of}
+use Rattle.building.proofs.BuiltOrFaultLemmas.{same_bytes}
 
 -- ---- lists of what there is
 

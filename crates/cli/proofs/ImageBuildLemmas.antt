@@ -1,10 +1,9 @@
 -- Class files that are short enough make a program whose class files are.
-use Rattle.std.proofs.Common.{◌≡◌, ℕ, ◌<◌, ◌≤◌, ◌^◌, List, [], ◌∷◌, ◌++◌, map, Option, Some, None, length, slice_get}
-use Rattle.std.proofs.Common.{refl, sym, ap, subst, ◌∙◌, MatchOption, IsSomeAnd, arith, Vec}
+use Rattle.std.proofs.Common.{◌≡◌, ℕ, ◌<◌, ◌≤◌, ◌^◌, List, [], ◌∷◌, map, Option, Some, None, length, slice_get}
+use Rattle.std.proofs.Common.{refl, sym, ap, subst, ◌∙◌, MatchOption, IsSomeAnd, arith}
 use Rattle.std.specs.List.{All, Contains}
-use Rattle.std.proofs.lemmas.List.Elements.{All-get_or, All-nil, All-cons, All-head, All-tail, All-push}
+use Rattle.std.proofs.lemmas.List.Elements.{All-get_or, All-nil, All-cons, All-head, All-tail}
 use Rattle.std.proofs.lemmas.List.Elements.{All-contains_itself}
-use Rattle.std.proofs.lemmas.List.{map-append}
 use Rattle.std.proofs.lemmas.Option.{slice_get-get_or, slice_get_within, get_or_from_slice_get}
 use Rattle.std.proofs.lemmas.Slice.Zip.{AllZip-right}
 use Rattle.classfile.specs.ClassFile.{ClassFile}
@@ -15,7 +14,7 @@ use Rattle.loading.specs.Families.{Family}
 use Rattle.image_format.specs.Images.{AreShort, ImageText}
 use Rattle.image_writer.specs.ImageTexts.{text_of, told_of}
 use Rattle.region_shape.specs.Wholes.{AreWhole}
-use Rattle.evaluator.specs.Regions.{environment_of}
+use Rattle.region_shape.specs.Regions.{environment_of}
 use Rattle.object_graph.specs.Images.{AreSmall, ImageTables}
 use Rattle.wave_scheduler.specs.Outcomes.{outcome_of}
 use Rattle.building.specs.Builds.{text_of as list_of}
@@ -25,7 +24,7 @@ use Rattle.program.specs.Tables.{Tables}
 use Rattle.cli.specs.Builds.{IsBuildOfClassFiles}
 use Rattle.cli.specs.ImageBuilds.{AreAtMost, IsBuiltText}
 use Rattle.cli.specs.ImageRuns.{IsTextOf}
-use Rattle.cli.specs.Runs.{IsProgramOf, texts_of}
+use Rattle.cli.specs.Runs.{IsProgramOf}
 
 abbrev file : GivenClass → ClassFile
 file c = c.file
@@ -72,14 +71,6 @@ are_short texts most P fits short of =
     all_short P.family P.family most fits
     (λ f there. short_file texts most P short of f ((of.family.members f).1 there))
     (All-contains_itself (map file P.family))
-
--- one more text that is short enough
-pub at_most_more : {A : Type 0} (most : ℕ) (files : List (Vec ℕ A)) (file : Vec ℕ A) → AreAtMost most (texts_of files)
-    → length file.items ≤ most → AreAtMost most (texts_of (files ++ file ∷ []))
-at_most_more {A} most files file all one =
-    let text : Vec ℕ A → List ℕ = λ f. f.items in
-    subst (AreAtMost most) (sym (map-append text files (file ∷ [])))
-    (All-push (λ (t : List ℕ). length t ≤ most) (texts_of files) file.items all one)
 
 -- bytes that are an image's text are a text of it
 pub is_text_of : (I : ImageTables) (bytes : List ℕ) → bytes ≡ text_of I

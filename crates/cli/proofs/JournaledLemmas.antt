@@ -26,7 +26,8 @@ use Rattle.cli.specs.Files.{AreBytesOf, Contents}
 use Rattle.cli.specs.Journaled.{IsJournaled, IsReplayed, IsReplayOf}
 use Rattle.cli.specs.Running.{IsCutShort, IsOfRun, cut_of}
 use Rattle.cli.specs.Status.{is_going, is_return, replay_status, run_status}
-use Rattle.cli.proofs.RunningLemmas.{appends_nothing, cut_at_end}
+use Rattle.sinks.proofs.AppendsLemmas.{appends_nothing}
+use Rattle.cli.proofs.RunningLemmas.{cut_at_end}
 
 pub journaled_cut_at_end : (P : Tables) (first : World) (before after : Option (List ℕ)) (ran : Journaled)
     → IsJournaled P first before after ran → IsCutShort P first before after Memory

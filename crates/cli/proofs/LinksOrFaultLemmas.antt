@@ -26,7 +26,7 @@ use Rattle.image_parser.proofs.LinkingLemmas.{links_or_fails}
 use Rattle.initializer_analysis.proofs.ReachesLemmas.{Decided, decided_as, decided_both, decided_below, decided_less}
 use Rattle.initializer_analysis.proofs.ReachesLemmas.{in_first, in_rest}
 use Rattle.initializer_analysis.proofs.ReachesLemmas.{first_or_rest, in_none}
-use Rattle.cli.proofs.HasMembersLemmas.{same_bytes}
+use Rattle.building.proofs.BuiltOrFaultLemmas.{same_bytes}
 
 -- ---- files in the order of their names
 

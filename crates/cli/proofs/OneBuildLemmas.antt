@@ -24,7 +24,7 @@ use Rattle.building.proofs.OneFaultLemmas.{one_fault_lem, settled_have_no_fault_
 use Rattle.building.proofs.OneSettledLemmas.{one_settled_as_lem}
 use Rattle.object_graph.proofs.CutsLemmas.{same_left}
 use Rattle.options.specs.declared.fault.OptionFault.{OptionFault}
-use Rattle.one_program.proofs.ProgramsLemmas.{still_fail}
+use Rattle.program.proofs.OneProgramLemmas.{still_fail}
 use Rattle.cli.specs.Builds.{BuildFails, IsBudget}
 use Rattle.cli.specs.OneBuild.{BuiltOrRefused, OneBuild, OneBuildFault, TellTheSame}
 use Rattle.cli.specs.Runs.{AreClassFiles, IsFirstBad, IsProgramOf}

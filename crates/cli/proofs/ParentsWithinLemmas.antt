@@ -1,6 +1,6 @@
 -- The parents of a family of files that link are classes of it.
 use Rattle.std.proofs.Common.{◌≡◌, ℕ, ◌<◌, List, [], ◌∷◌, ◌++◌, length, map, Option, Some, None, slice_get, refl, sym}
-use Rattle.std.proofs.Common.{ap, subst, ◌∙◌, inl, inr, ◌⊎◌, option_map}
+use Rattle.std.proofs.Common.{ap, subst, ◌∙◌, inl, inr, ◌⊎◌}
 use Rattle.std.specs.List.{Contains}
 use Rattle.std.proofs.lemmas.List.Elements.{All-contains, Contains-append_cases}
 use Rattle.std.proofs.lemmas.Option.{slice_get_within, get_or_from_slice_get}
@@ -9,19 +9,12 @@ use Rattle.loading.specs.declared.fault.BadParent.TheVariants as bad
 use Rattle.loading.specs.declared.given.GivenClass.{GivenClass}
 use Rattle.loading.specs.declared.given.Superclass.{Superclass}
 use Rattle.loading.specs.declared.given.Superclass.TheVariants as super
-use Rattle.loading.specs.Families.{AreParentsWithin, Family, IsFamilyOf, file_of, interfaces_if, name_in}
+use Rattle.loading.specs.Families.{AreParentsWithin, Family, IsFamilyOf, interfaces_if, name_in}
 use Rattle.loading.specs.Families.{given_superclass, superclass_if, superclass_name}
 use Rattle.loading.specs.Files.{Links, no_superclass}
 use Rattle.loading.specs.Names.{interfaces_of, name_of, superclass_of}
 use Rattle.initializer_analysis.proofs.ReachesLemmas.{first_or_rest, in_first, in_none, in_rest}
-
-named_within : (family : Family) (c : ℕ) (name : List ℕ) → name_in family c ≡ Some name → c < length family
-named_within family c name = by (slice_get family c) refl
-  where
-    by : (o : Option GivenClass) → slice_get family c ≡ o → option_map name_of (file_of o) ≡ Some name
-        → c < length family
-    by None at named = cc
-    by (Some given) at named = slice_get_within family c given at
+use Rattle.options.proofs.MatchedLemmas.{named_within}
 
 pub in_map : {A B : Type 0} (f : A → B) (xs : List A) (x : A) → Contains xs x → Contains (map f xs) (f x)
 in_map f [] x at = absurd (in_none x at)

@@ -5,7 +5,7 @@ use Rattle.semantics.specs.Quiet.{Environment}
 use Rattle.semantics.specs.Settling.{constant_region}
 use Rattle.semantics.specs.Worlds.{World}
 use Rattle.program.specs.Tables.{Tables}
-use Rattle.evaluator.specs.Regions.{environment_of}
+use Rattle.region_shape.specs.Regions.{environment_of}
 use Rattle.machine.specs.Linked.{program_of}
 use Rattle.wave_scheduler.specs.Settled.{region_in}
 use Rattle.object_graph.specs.Cuts.{IsCutOf}

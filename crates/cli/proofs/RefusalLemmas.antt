@@ -1,10 +1,8 @@
 -- What the layers below refuse, as refusals.
 use Rattle.std.proofs.Common.{◌≡◌, ◌≢◌, ℕ, ◌+◌, ◌<◌, ◌⊎◌, inl, inr, List, [], ◌∷◌, ◌++◌, length, take, Some}
 use Rattle.std.proofs.Common.{get_or}
-use Rattle.std.proofs.Common.{slice_get, sym, ap, subst, refl, ◌∙◌, Vec, append-nil, Result, Ok, Err, IfOk, IfErr, OnOk}
-use Rattle.std.specs.List.{flat_map}
-use Rattle.std.proofs.lemmas.Grind.{flat_map-append}
-use Rattle.std.proofs.lemmas.List.{map_more, take-map, take_more}
+use Rattle.std.proofs.Common.{slice_get, sym, ap, subst, refl, ◌∙◌, Vec, Result, Ok, Err, IfOk, IfErr, OnOk}
+use Rattle.std.proofs.lemmas.List.{map_more, take-map}
 use Rattle.std.proofs.lemmas.Option.{slice_get-map}
 use Rattle.classfile.specs.ClassFile.{ClassFile}
 use Rattle.classfile.specs.Class.{IsClassText}
@@ -135,13 +133,3 @@ pub refused_entries : (texts names : List (List ℕ)) (P : Tables) (r : Refusal)
     → IsProgramOf texts P → (r ≡ Memory) ⊎ IsRefusedEntry P names r → (r ≡ Memory) ⊎ IsRefused texts names r
 refused_entries texts names P r counted program (inl memory) = inl memory
 refused_entries texts names P r counted program (inr wrong) = inr (refused_entry counted program wrong)
-
--- ---- lines one by one
-
-pub flat_more : {X : Type 0} (f : X → List ℕ) (xs : List X) (i : ℕ) (d x : X) (old new : List ℕ) → i < length xs
-    → x ≡ get_or xs i d → old ≡ flat_map f (take i xs) → new ≡ old ++ f x → new ≡ flat_map f (take (i + 1) xs)
-flat_more {X} f xs i d x old new within read before more =
-    more
-    ∙ (ap (λ (o : List ℕ). o ++ f x) before
-    ∙ sym (ap (flat_map f) (take_more xs i d within ∙ ap (λ (y : X). take i xs ++ y ∷ []) (sym read))
-    ∙ (flat_map-append f (take i xs) (x ∷ []) ∙ ap (λ (o : List ℕ). flat_map f (take i xs) ++ o) (append-nil (f x)))))

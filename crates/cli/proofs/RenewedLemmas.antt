@@ -2,7 +2,7 @@
 use Rattle.std.proofs.Common.{◌≡◌, ◌≢◌, ◌⊎◌, ◌∙◌, inl, inr, ℕ, List, Option, sym, subst, refl}
 use Rattle.loading.specs.Families.{Family}
 use Rattle.object_graph.specs.Images.{ImageTables}
-use Rattle.image_format.specs.declared.region.ImageRegion.{ImageRegion}
+use Rattle.image_format.specs.Regions.{ImageRegion}
 use Rattle.image_format.specs.declared.version.Version.TheVariants.{Two}
 use Rattle.image_format.specs.Images.{AreShort, ImageText, SomeText}
 use Rattle.image_format.specs.Texts.{image_text}

@@ -1,8 +1,8 @@
 -- Lines that go out, one piece after the other.
-use Rattle.std.proofs.Common.{◌≡◌, ◌+◌, ◌≤◌, ◌∙◌, ℕ, suc, List, [], ◌∷◌, ◌++◌, Option, Some, None, length, take, drop}
+use Rattle.std.proofs.Common.{◌≡◌, ◌+◌, ◌≤◌, ◌∙◌, ℕ, suc, List, [], ◌∷◌, ◌++◌, Option, length, take, drop}
 use Rattle.std.proofs.Common.{ap}
-use Rattle.std.proofs.Common.{sym, subst, refl, arith, append_assoc, append-nil, length-append, Bool, true, Err}
-use Rattle.std.proofs.Math.Seq.{take-add, take-length}
+use Rattle.std.proofs.Common.{sym, subst, refl, arith, length-append, Bool, true, Err}
+use Rattle.std.proofs.Math.Seq.{take-length}
 use Rattle.std.proofs.lemmas.List.{length-map, take-append-drop, take-append-le}
 use Rattle.std.specs.Io.KnownBytes.{Appends}
 use Rattle.vm_state.specs.Shares.{shared_of}
@@ -27,25 +27,7 @@ use Rattle.cli.specs.declared.running.RunFault.TheVariants.{Memory, Device}
 use Rattle.cli.specs.declared.status.Status.{Status}
 use Rattle.cli.specs.Running.{HasRun, IsCutShort, IsStanding, SendsTo}
 use Rattle.cli.specs.Status.{run_status}
-
-pub appends_nothing : (old : Option (List ℕ)) → Appends old old []
-appends_nothing None = tt
-appends_nothing (Some xs) = sym (append-nil xs)
-
-pub appends_then : (old now new : Option (List ℕ)) (first second : List ℕ) → Appends old now first
-    → Appends now new second → Appends old new (first ++ second)
-appends_then None now new first second a b = tt
-appends_then (Some xs) None new first second a b = absurd a
-appends_then (Some xs) (Some ys) None first second a b = absurd b
-appends_then (Some xs) (Some ys) (Some zs) first second a b =
-    b ∙ ap (λ (r : List ℕ). r ++ second) a ∙ append_assoc xs first second
-
--- a further part of a text
-pub appends_more : (old now new : Option (List ℕ)) (text : List ℕ) (at n : ℕ) → Appends old now (take at text)
-    → Appends now new (take n (drop at text)) → Appends old new (take (at + n) text)
-appends_more old now new text at n a b =
-    subst (λ (r : List ℕ). Appends old new r) (sym (take-add at n text))
-    (appends_then old now new (take at text) (take n (drop at text)) a b)
+use Rattle.sinks.proofs.AppendsLemmas.{appends_then}
 
 pub threads_counted : (s : Standing) → length (world_of s).threads ≡ length s.threads
 threads_counted s = length-map s.threads thread_of

@@ -1,7 +1,7 @@
 -- From an image's bytes to those of the same image in the version that is written.
 use Rattle.std.specs.Prelude.{ℕ, List, Option}
 use Rattle.loading.specs.Families.{Family}
-use Rattle.image_format.specs.declared.region.ImageRegion.{ImageRegion}
+use Rattle.image_format.specs.Regions.{ImageRegion}
 use Rattle.image_format.specs.Images.{ImageText, SomeText}
 use Rattle.image_parser.specs.ImageFaults.{ImageFails}
 use Rattle.image_parser.specs.declared.image_fault.ImageFault.{ImageFault}

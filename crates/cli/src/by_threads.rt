@@ -115,7 +115,7 @@ pub(crate) fn replayed<F: Files>(
 {
     let image = get(alloc, words.image, files)?;
     let journal = get(alloc, words.journal, files)?;
-    let start = start_of(alloc, words.entries, image.as_slice())?;
+    let start = start_of(alloc, words.entries, image)?;
     replay_text(alloc, start, journal.as_slice())
 }
 

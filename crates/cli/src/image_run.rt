@@ -117,25 +117,45 @@ pub(crate) fn start<R: Threads, F: Files>(
     ensures same { F.holds files.new ≡ F.holds files.old }
 {
     match get(alloc, name, files) {
-        Ok(bytes) => start_by_two(rt, alloc, list, bytes.as_slice()),
+        Ok(bytes) => start_by_two(rt, alloc, list, bytes),
         Err(refusal) => Err(refusal),
     }
 }
 
-/// The start from an image of these bytes, at whose digest another thread may look.
+/// The start from an image of these bytes, at whose digest another thread may look. The bytes are let go before the
+/// world is made.
 fn start_by_two<R: Threads>(
     rt: &R,
     alloc: Global,
     list: &str,
-    bytes: &[u8],
+    bytes: Vec<u8>,
 ) -> Result<ImageStart, Refusal>
-    ensures text { IfOk result (λ start. IsSomeTextOf bytes.now start.image) }
+    ensures text { IfOk result (λ start. IsSomeTextOf bytes.items start.image) }
     ensures program { IfOk result (λ start. IsProgram start.image.program) }
     ensures start { IfOk result (λ start. IsImageStart start.image (entry_names list.now) (world_of start.world)) }
 {
     let entries = entries_of(alloc, list)?;
-    match read_by_two(rt, alloc, bytes) {
-        Ok(image) => started(alloc, image, entries.as_slice()),
+    match read_by_two(rt, alloc, bytes.as_slice()) {
+        Ok(image) => {
+            drop(bytes);
+            started(alloc, image, entries.as_slice())
+        }
+        Err(fault) => Err(Refusal::of_image(fault)),
+    }
+}
+
+/// The start from an image of these bytes, from the entries of a list. The bytes are let go before the world is made.
+pub(crate) fn start_of(alloc: Global, list: &str, bytes: Vec<u8>) -> Result<ImageStart, Refusal>
+    ensures text { IfOk result (λ start. IsSomeTextOf bytes.items start.image) }
+    ensures program { IfOk result (λ start. IsProgram start.image.program) }
+    ensures start { IfOk result (λ start. IsImageStart start.image (entry_names list.now) (world_of start.world)) }
+{
+    let entries = entries_of(alloc, list)?;
+    match read(alloc, bytes.as_slice()) {
+        Ok(image) => {
+            drop(bytes);
+            started(alloc, image, entries.as_slice())
+        }
         Err(fault) => Err(Refusal::of_image(fault)),
     }
 }
@@ -151,14 +171,4 @@ fn started(alloc: Global, image: Image, entries: &[ClassName]) -> Result<ImageSt
         Ok(world) => Ok(ImageStart { image, world }),
         Err(fault) => Err(Refusal::of_entry(fault)),
     }
-}
-
-/// The start from an image of these bytes, from the entries of a list.
-pub(crate) fn start_of(alloc: Global, list: &str, bytes: &[u8]) -> Result<ImageStart, Refusal>
-    ensures text { IfOk result (λ start. IsSomeTextOf bytes.now start.image) }
-    ensures program { IfOk result (λ start. IsProgram start.image.program) }
-    ensures start { IfOk result (λ start. IsImageStart start.image (entry_names list.now) (world_of start.world)) }
-{
-    let entries = entries_of(alloc, list)?;
-    image_start(alloc, bytes, entries.as_slice())
 }

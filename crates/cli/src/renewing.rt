@@ -1,7 +1,7 @@
 //! From an image's bytes to those of the same image in the version that is written, and the command `renew` over it.
 ghost use Rattle.std.specs.Prelude.{◌≡◌, ◌⊎◌, List, Option, IfErr, IfOk, OnOk};
 ghost use Rattle.loading.specs.Families.{Family as Classes};
-ghost use Rattle.image_format.specs.declared.region.ImageRegion.{ImageRegion as Told};
+ghost use Rattle.image_format.specs.Regions.{ImageRegion as Told};
 ghost use Rattle.image_format.specs.Images.{ImageText};
 ghost use Rattle.cli.specs.Done.{HasRenewed};
 ghost use Rattle.cli.specs.Renewals.{IsNoImage, IsRenewed};

@@ -72,7 +72,7 @@ pub fn command<R: Threads + Wait + Sync, F: Files, W: Write + Send + Drop, E: Wr
     ensures done { (status : Status) → result.0 ≡ code_of status → IsOver status → DidWords (texts words.now)
         (F.holds files.old) (F.holds files.new) (W.contents out) (W.contents result.1) status }
 {
-    let End {
+    let CommandEnd {
         status,
         out,
         held: _,
@@ -89,7 +89,7 @@ pub enum Held {
 }
 
 /// How a command ended.
-pub struct End<W> {
+pub struct CommandEnd<W> {
     /// The exit status.
     pub status: u8,
     /// Standard output.
@@ -105,7 +105,15 @@ pub fn command_holding<
     W: Write + Send + Drop,
     E: Write,
     H: Watch + Sync,
->(rt: &R, alloc: Global, words: &[&str], files: &mut F, out: W, errors: &mut E, watch: &H) -> End<W>
+>(
+    rt: &R,
+    alloc: Global,
+    words: &[&str],
+    files: &mut F,
+    out: W,
+    errors: &mut E,
+    watch: &H,
+) -> CommandEnd<W>
     ensures range { result.status ≤ 6 }
     ensures refused { result.status ≡ 1 → (result.out ≡ out) ⊎ AskFor (texts words.now) (F.holds files.old)
         (λ request. IsOfRun (F.holds files.old) request (W.contents out) (W.contents result.out)) }
@@ -114,7 +122,7 @@ pub fn command_holding<
         (F.holds files.old) (F.holds files.new) (W.contents out) (W.contents result.out) status }
 {
     let (status, held, out) = do_words(rt, alloc, words, files, out, errors, watch);
-    End {
+    CommandEnd {
         status: status.code(),
         out,
         held,
@@ -166,16 +174,18 @@ fn do_asked<R: Threads + Wait + Sync, F: Files, W: Write + Send + Drop, E: Write
         × IsDone (F.holds files.old) (F.holds files.new) (W.contents out) (W.contents result.2) request result.0) }
 {
     match words_given(alloc, asked.files(), files) {
-        Ok(given) => do_listed(
-            rt,
-            alloc,
-            asked,
-            given.as_slice(),
-            files,
-            out,
-            errors,
-            watch,
-        ),
+        Ok(given) => {
+            let given = given.as_slice();
+            do_listed(
+                rt,
+                alloc,
+                Listed { asked, given },
+                files,
+                out,
+                errors,
+                watch,
+            )
+        }
         Err(refusal) => (
             refuse_asked(alloc, &asked, &refusal, errors),
             Held::Nothing,
@@ -197,7 +207,13 @@ fn refuse_asked<E: Write>(
     refuse(refusal, &mut voice)
 }
 
-/// Does the command of a request, with what its words for class files stand for. Answers standard output back.
+/// A request, and what its words for class files stand for.
+struct Listed<'a> {
+    asked: Request<'a>,
+    given: &'a [Given<'a>],
+}
+
+/// Does the command of a request whose words for class files stand for these. Answers standard output back.
 fn do_listed<
     'a,
     R: Threads + Wait + Sync,
@@ -208,20 +224,21 @@ fn do_listed<
 >(
     rt: &R,
     alloc: Global,
-    asked: Request<'a>,
-    given: &'a [Given<'a>],
+    listed: Listed<'a>,
     files: &mut F,
     out: W,
     errors: &mut E,
     watch: &H,
 ) -> (Status, Held, W)
-    requires { AreGivenAs (F.holds files.old) (texts (files_of asked)) given.now }
-    ensures refused { result.0 ≡ Status.Refused → (result.2 ≡ out) ⊎ HoldsWithLists (F.holds files.old) asked.entry
+    requires { AreGivenAs (F.holds files.old) (texts (files_of listed.asked)) listed.given.now }
+    ensures refused { result.0 ≡ Status.Refused → (result.2 ≡ out)
+        ⊎ HoldsWithLists (F.holds files.old) listed.entry.asked
         (λ request. IsOfRun (F.holds files.old) request (W.contents out) (W.contents result.2)) }
     ensures words { result.0 ≡ Status.Words → result.2 ≡ out }
-    ensures done { IsOver result.0 → HoldsWithLists (F.holds files.old) asked.entry (λ request. IsApart request
+    ensures done { IsOver result.0 → HoldsWithLists (F.holds files.old) listed.entry.asked (λ request. IsApart request
         × IsDone (F.holds files.old) (F.holds files.new) (W.contents out) (W.contents result.2) request result.0) }
 {
+    let Listed { asked, given } = listed;
     match names(alloc, given) {
         Ok(names) => {
             let request = asked.with_files(names);
@@ -382,38 +399,35 @@ fn run_image<R: Threads + Wait + Sync, F: Files, W: Write + Send + Drop, E: Erro
         (W.contents result.2) (Request.Run words.now) result.0 }
 {
     match image_run::start(rt, alloc, words.image, words.entries, files) {
-        Ok(ImageStart { image, world }) => {
-            let (status, out) = run_told(rt, alloc, &image, world, words, files, out, errors);
-            (status, Held::Image(image), out)
-        }
+        Ok(start) => run_told(rt, alloc, start, words, files, out, errors),
         Err(refusal) => (refuse(&refusal, errors), Held::Nothing, out),
     }
 }
 
-/// Runs a world as the words say, and tells how its threads ended.
+/// Runs the start of an image as the words say, and tells how its threads ended.
 fn run_told<R: Threads + Wait + Sync, F: Files, W: Write + Send + Drop, E: Errors>(
     rt: &R,
     alloc: Global,
-    image: &Image,
-    world: World,
+    start: ImageStart,
     words: &Run<'_>,
     files: &mut F,
     out: W,
     errors: &mut E,
-) -> (Status, W)
-    ensures refused { result.0 ≡ Status.Refused
-        → IsCutShort image.now.program (world_of world) (W.contents out) (W.contents result.1) RunFault.Memory }
+) -> (Status, Held, W)
+    ensures refused { result.0 ≡ Status.Refused → IsCutShort start.image.program (world_of start.world)
+        (W.contents out) (W.contents result.2) RunFault.Memory }
     ensures words { result.0 ≢ Status.Words }
     ensures done { IsOver result.0 → HasEndedWithJournal (F.holds files.old) (F.holds files.new) words.now.journal
-        image.now.program (world_of world) (W.contents out) (W.contents result.1) result.0 }
+        start.image.program (world_of start.world) (W.contents out) (W.contents result.2) result.0 }
 {
+    let ImageStart { image, world } = start;
     let (outcome, out) = run_as_said(rt, alloc, image.program(), world, words, out);
     match outcome {
-        Ok(ran) => (
-            tell_run_and_stacks(alloc, image, words, &ran, files, errors),
-            out,
-        ),
-        Err(refusal) => (refuse(&refusal, errors), out),
+        Ok(ran) => {
+            let status = tell_run_and_stacks(alloc, &image, words, &ran, files, errors);
+            (status, Held::Image(image), out)
+        }
+        Err(refusal) => (refuse(&refusal, errors), Held::Image(image), out),
     }
 }
 

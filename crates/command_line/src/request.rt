@@ -160,7 +160,7 @@ impl<'a> Request<'a> {
         }
     }
 
-    /// The same request of these class files, where it is one of class files.
+    /// This request of other class files, where it is one of class files.
     pub fn with_files(self, files: Vec<&'a str>) -> Request<'a>
         ensures { result ≡ with_files self.entry files.entry }
     {
@@ -196,7 +196,7 @@ impl<'a> Request<'a> {
 }
 
 impl<'a> Building<'a> {
-    /// The same build of these class files.
+    /// This build of other class files.
     fn with_files(self, files: Vec<&'a str>) -> Building<'a>
         ensures { result ≡ building_with self.entry files.entry }
     {

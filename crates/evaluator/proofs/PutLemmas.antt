@@ -11,8 +11,8 @@ use Rattle.region_shape.specs.Shapes.{HasShape}
 use Rattle.region_shape.specs.Texts.{HasTexts}
 use Rattle.region_shape.specs.Wholes.{AreWhole}
 use Rattle.region_shape.proofs.NamesLemmas.{names_wider}
-use Rattle.evaluator.specs.declared.regions.Region.{Region as Held}
-use Rattle.evaluator.specs.Regions.{environment_of, region_in, region_of, with_region}
+use Rattle.region_shape.specs.declared.regions.Region.{Region as Held}
+use Rattle.region_shape.specs.Regions.{environment_of, region_in, region_of, with_region}
 use Rattle.evaluator.specs.Settleable.{IsWhole, WholeStayWhole}
 
 module _ (P : Tables) (before after : List (Option Held)) (c budget : ℕ) (r : Held)

@@ -1,6 +1,5 @@
--- What writes into the region of a class whose initializer runs alone lead to; and regions by the numbers of classes.
-use Rattle.std.proofs.Common.{◌≡◌, ℕ, ◌<◌, true, ◌==◌, List, [], ◌∷◌, ◌++◌, Option, Some, None, length, slice_set}
-use Rattle.std.proofs.Common.{map, zero, suc, refl, sym, ap, ap₂, ◌∙◌, arith}
+-- What writes into the region of a class whose initializer runs alone lead to.
+use Rattle.std.proofs.Common.{◌≡◌, ℕ, true, ◌==◌, List, [], ◌∷◌, Option, map, zero, suc, refl, sym, ap, ap₂, ◌∙◌, arith}
 use Rattle.std.proofs.Math.Path.{fun_ext}
 use Rattle.vm_state.specs.declared.value.Value.{Value}
 use Rattle.vm_state.specs.declared.value.Name.{Name}
@@ -10,15 +9,13 @@ use Rattle.vm_state.specs.Objects.{ObjectRow, empty_row}
 use Rattle.vm_state.specs.Pools.{pool_by}
 use Rattle.vm_state.specs.SharedState.{Pool, Region as RegionOf, same_maker, with_slot}
 use Rattle.vm_state.specs.Statics.{field_in, with_value, with_constants, zeros_of}
-use Rattle.vm_state.proofs.ListLemmas.{get_or-filled, get_or-slice_set}
 use Rattle.semantics.specs.Rows.{Row, WriteStatic}
 use Rattle.semantics.specs.Programs.{Program}
 use Rattle.semantics.specs.Quiet.{Environment}
 use Rattle.semantics.specs.Settling.{constant_region}
 use Rattle.semantics.specs.Worlds.{empty_pool}
 use Rattle.machine.specs.ObjectParts.{set_named}
-use Rattle.evaluator.specs.declared.regions.Region.{Region}
-use Rattle.evaluator.specs.Regions.{region_of, region_in, with_region}
+use Rattle.region_shape.specs.Regions.{region_of}
 use Rattle.evaluator.specs.steps.Within.{within}
 
 itself : (n : ℕ) → (n == n) ≡ true
@@ -63,12 +60,3 @@ begins P c zeros fields objects is set none =
     ap₂ region_with
     (set ∙ ap (with_constants (P.statics c)) (ap field_in is ∙ fun_ext (zero_at (P.statics c))))
     (ap pool_by none ∙ no_objects)
-
--- ---- regions by the numbers of classes
-
-pub region_in_more : (rs : List (Option Region)) → region_in (rs ++ None ∷ []) ≡ region_in rs
-region_in_more rs = fun_ext (λ c. get_or-filled rs 1 c None)
-
-pub region_in_put : (rs : List (Option Region)) (c : ℕ) (r : Region) → c < length rs →
-    region_in (slice_set rs c (Some r)) ≡ with_region (region_in rs) c r
-region_in_put rs c r h = fun_ext (λ d. get_or-slice_set rs c d (Some r) None h)

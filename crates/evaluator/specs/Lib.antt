@@ -1,4 +1,3 @@
-pub mod Regions
 pub mod Outcomes
 pub mod Settleable
 pub mod steps

@@ -13,7 +13,7 @@ use Rattle.evaluator.specs.declared.outcome.Outcome.{Outcome}
 use Rattle.evaluator.specs.declared.outcome.Outcome.TheVariants as outcomes
 use Rattle.evaluator.specs.declared.outcome.Ending.{Ending}
 use Rattle.evaluator.specs.declared.outcome.Ending.TheVariants as endings
-use Rattle.evaluator.specs.Regions.{region_of}
+use Rattle.region_shape.specs.Regions.{region_of}
 
 abbrev pub reason_of : Refusal → Reason
 reason_of Raised = IsRaised

@@ -14,8 +14,8 @@ use Rattle.use_graph.specs.declared.mark.Mark.{Mark}
 use Rattle.use_graph.specs.Uses.{IsUse, HasMark}
 use Rattle.evaluator.specs.declared.outcome.Outcome.{Outcome}
 use Rattle.evaluator.specs.declared.outcome.Outcome.TheVariants as outcomes
-use Rattle.evaluator.specs.declared.regions.Region.{Region as Held}
-use Rattle.evaluator.specs.Regions.{environment_of, region_in, region_of, with_region}
+use Rattle.region_shape.specs.declared.regions.Region.{Region as Held}
+use Rattle.region_shape.specs.Regions.{environment_of, region_in, region_of, with_region}
 use Rattle.evaluator.specs.Outcomes.{IsUnbarred}
 
 -- A given class can be settled: its code bears no mark, and its initializer is lent some of the regions at hand, those

@@ -10,12 +10,12 @@ ghost use Rattle.machine.specs.ObjectParts.{slot_in};
 ghost use Rattle.evaluator.specs.steps.Builds.{Building, run_build, stopped_build, CanUseAtBuild};
 ghost use Rattle.evaluator.specs.steps.BuildTables.{build_of};
 
-use crate::regions::{Region, Regions};
 use built_in::class_id::{ArrayType, BuiltIn, ClassId};
 use machine::kinds::{Actor, Stop};
 use machine::sharing::{length_of, named_slot};
 use machine::store::Store;
 use program::Program;
+use region_shape::regions::{Region, Regions};
 use std::alloc::{AllocError, Global};
 use vm_state::object::Slots;
 use vm_state::value::{Maker, Name, Value};

@@ -6,14 +6,14 @@ ghost use Rattle.vm_state.specs.Shares.{shared_of};
 ghost use Rattle.program.specs.Tables.{Tables};
 ghost use Rattle.courses.specs.steps.StepTables.{KeepsSteps};
 ghost use Rattle.machine.specs.Linked.{program_of};
-ghost use Rattle.evaluator.specs.Regions.{region_of};
+ghost use Rattle.region_shape.specs.Regions.{region_of};
 ghost use Rattle.evaluator.specs.steps.Desks.{IsAlone, GoesAhead};
 
-use crate::regions::Region;
+use crate::turn::Initializer;
 use courses::course::run_segment;
 use courses::step_table::StepTable;
 use machine::kinds::Actor;
-use program::Program;
+use region_shape::regions::Region;
 use std::alloc::{AllocError, Global};
 use std::mem;
 use vm_state::classes::{Classes, Fields};
@@ -62,20 +62,20 @@ impl Desk {
     pub(crate) fn run(
         &mut self,
         alloc: Global,
-        program: &Program,
-        class: u32,
+        given: Initializer<'_>,
         own: &mut Region,
         segment: &mut Segment,
         done: u64,
         most: u64,
     ) -> Result<u64, AllocError>
-        requires steps { KeepsSteps program.now self.old.table }
-        requires alone { IsAlone class self.old.shared }
-        ensures steps { OnOk result (KeepsSteps program.now self.new.table) }
-        ensures alone { OnOk result (IsAlone class self.new.shared) }
-        ensures ahead { IfOk result (λ count. GoesAhead (program_of program.now) class most count segment.old
-            (region_of own.old) segment.new (region_of own.new)) }
+        requires steps { KeepsSteps given.program.now self.old.table }
+        requires alone { IsAlone given.class self.old.shared }
+        ensures steps { OnOk result (KeepsSteps given.entry.program.now self.new.table) }
+        ensures alone { OnOk result (IsAlone given.entry.class self.new.shared) }
+        ensures ahead { IfOk result (λ count. GoesAhead (program_of given.entry.program.now) given.entry.class most
+            count segment.old (region_of own.old) segment.new (region_of own.new)) }
     {
+        let Initializer { program, class, .. } = given;
         if done < FEW + u64::from(class) {
             return Ok(0);
         }

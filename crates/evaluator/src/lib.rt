@@ -5,6 +5,5 @@ mod build;
 mod desk;
 pub mod laws;
 pub mod outcome;
-pub mod regions;
 pub mod settling;
 mod turn;

@@ -1,6 +1,6 @@
 //! How a class's initializer ends at build time.
 
-use crate::regions::Region;
+use region_shape::regions::Region;
 
 /// Why an initializer is refused.
 #[derive(Clone, Copy)]

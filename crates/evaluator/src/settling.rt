@@ -5,7 +5,7 @@ ghost use Rattle.vm_state.specs.Segments.{frames_of};
 ghost use Rattle.semantics.specs.Alone.{body};
 ghost use Rattle.semantics.specs.Settling.{constant_region};
 ghost use Rattle.machine.specs.Linked.{program_of};
-ghost use Rattle.evaluator.specs.Regions.{region_of, environment_of};
+ghost use Rattle.region_shape.specs.Regions.{region_of, environment_of};
 ghost use Rattle.evaluator.specs.Outcomes.{IsEnding, IsOutcome, IsUnbarred};
 ghost use Rattle.evaluator.specs.Settleable.{IsSettleable, LeavesWhole};
 ghost use Rattle.evaluator.specs.steps.Turns.{IsEnd};
@@ -13,10 +13,10 @@ ghost use Rattle.evaluator.specs.steps.Turns.{IsEnd};
 use crate::build::Build;
 use crate::desk::Desk;
 use crate::outcome::{Ending, Halt, Outcome, Refusal};
-use crate::regions::{Region, Regions};
-use crate::turn::{Turn, take_turn};
+use crate::turn::{Initializer, Turn, take_turn};
 use machine::entering::initializer_frame;
 use program::Program;
+use region_shape::regions::{Region, Regions};
 use region_shape::{class_is_from_file, program_is_linked};
 use std::alloc::{AllocError, Global};
 use vm_state::classes::Fields;
@@ -44,31 +44,21 @@ fn constant_region(alloc: Global, program: &Program, class: u32) -> Result<Regio
 /// `AllocError` where memory is refused.
 fn run_frames<'a>(
     alloc: Global,
-    program: &'a Program,
-    regions: &'a Regions,
-    class: u32,
+    given: Initializer<'a>,
     store: &mut Build<'a>,
     segment: &mut Segment,
     budget: u64,
 ) -> Result<Option<Halt>, AllocError>
-    ensures { IfOk result (λ halt. IsEnd (program_of program.now) (environment_of regions.now) class
-        (frames_of segment.old) (region_of store.old.own) budget halt (region_of store.new.own)) }
+    ensures { IfOk result (λ halt. IsEnd (program_of given.entry.program.now) (environment_of given.entry.regions.now)
+        given.entry.class (frames_of segment.old) (region_of store.old.own) budget halt (region_of store.new.own)) }
 {
     let mut desk = Desk::new(alloc);
     let mut left = budget;
     while left > 0 {
         let done = budget - left;
-        let ahead = desk.run(
-            alloc,
-            program,
-            class,
-            &mut store.own,
-            segment,
-            done,
-            left - 1,
-        )?;
+        let ahead = desk.run(alloc, given, &mut store.own, segment, done, left - 1)?;
         let most = left - 1 - ahead;
-        match take_turn(alloc, program, regions, class, store, segment, most)? {
+        match take_turn(alloc, given, store, segment, most)? {
             Turn::On => left = most.saturating_sub(store.made),
             Turn::Over => return Ok(None),
             Turn::Stopped(halt) => return Ok(Some(halt)),
@@ -83,23 +73,21 @@ fn run_frames<'a>(
 /// `AllocError` where memory is refused.
 fn run_initializer<'a>(
     alloc: Global,
-    program: &'a Program,
-    regions: &'a Regions,
-    class: u32,
+    given: Initializer<'a>,
     store: &mut Build<'a>,
     budget: u64,
 ) -> Result<Option<Halt>, AllocError>
-    ensures { IfOk result (λ halt. IsEnd (program_of program.now) (environment_of regions.now) class
-        (body ((program_of program.now).initializer class)) (region_of store.old.own) budget halt
-        (region_of store.new.own)) }
+    ensures { IfOk result (λ halt. IsEnd (program_of given.entry.program.now) (environment_of given.entry.regions.now)
+        given.entry.class (body ((program_of given.entry.program.now).initializer given.entry.class))
+        (region_of store.old.own) budget halt (region_of store.new.own)) }
 {
-    match initializer_frame(alloc, program, class)? {
+    match initializer_frame(alloc, given.program, given.class)? {
         Some(innermost) => {
             let mut segment = Segment {
                 innermost,
                 callers: FrameList::none(alloc),
             };
-            run_frames(alloc, program, regions, class, store, &mut segment, budget)
+            run_frames(alloc, given, store, &mut segment, budget)
         }
         None => Ok(None),
     }
@@ -121,6 +109,11 @@ pub fn evaluate(
         ending) }
 {
     let own = constant_region(alloc, program, class)?;
+    let given = Initializer {
+        program,
+        regions,
+        class,
+    };
     let mut store = Build {
         program,
         regions,
@@ -129,7 +122,7 @@ pub fn evaluate(
         most: 0,
         made: 0,
     };
-    match run_initializer(alloc, program, regions, class, &mut store, budget) {
+    match run_initializer(alloc, given, &mut store, budget) {
         Ok(None) => Ok(Ending::Settled(store.own)),
         Ok(Some(halt)) => Ok(Ending::Stopped(halt)),
         Err(error) => Err(error),

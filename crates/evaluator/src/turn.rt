@@ -5,7 +5,7 @@ ghost use Rattle.vm_state.specs.Segments.{frames_of};
 ghost use Rattle.semantics.specs.Quiet.{quiet_step};
 ghost use Rattle.machine.specs.Accesses.{Untouched};
 ghost use Rattle.machine.specs.Linked.{program_of};
-ghost use Rattle.evaluator.specs.Regions.{region_of, environment_of};
+ghost use Rattle.region_shape.specs.Regions.{region_of, environment_of};
 ghost use Rattle.evaluator.specs.Outcomes.{stop_of};
 ghost use Rattle.evaluator.specs.steps.Within.{capped};
 ghost use Rattle.evaluator.specs.steps.Builds.{stopped_build};
@@ -15,15 +15,23 @@ ghost use Rattle.machine.specs.declared.kinds.Stop.{Stop as Reason};
 
 use crate::build::Build;
 use crate::outcome::{Halt, Refusal};
-use crate::regions::Regions;
 use machine::effects::receive;
 use machine::execute::execute;
 use machine::kinds::{Actor, Conclusion, Stop};
 use program::Program;
+use region_shape::regions::Regions;
 use std::alloc::{AllocError, Global};
 use vm_state::frame::{Frame, Segment};
 use vm_state::spares::Spares;
 use vm_state::value::{Fault, Maker, Value};
+
+/// A class's initializer, and what it runs over: its program, and the regions at hand.
+#[derive(Clone, Copy)]
+pub struct Initializer<'a> {
+    pub program: &'a Program,
+    pub regions: &'a Regions,
+    pub class: u32,
+}
 
 /// What one instruction of an initializer did.
 #[derive(Clone, Copy)]
@@ -41,31 +49,29 @@ pub enum Turn {
 #[tactic(auto, unfolding(machine::specs::Accesses::unless_refused))]
 fn perform<'a>(
     alloc: Global,
-    program: &'a Program,
-    regions: &'a Regions,
-    class: u32,
+    given: Initializer<'a>,
     store: &mut Build<'a>,
     frame: &mut Frame,
     most: u64,
 ) -> Result<Conclusion, Stop>
     ensures performs { Performs
-        (capped most (quiet_step (program_of program.now) (environment_of regions.now) class frame.old
-        (region_of store.old.own)))
+        (capped most (quiet_step (program_of given.entry.program.now) (environment_of given.entry.regions.now)
+        given.entry.class frame.old (region_of store.old.own)))
         frame.new (region_of store.new.own) store.new.made result }
     ensures frame { Untouched result frame.old frame.new }
     ensures activity { frame.new.activity ≡ frame.old.activity }
 {
-    store.program = program;
-    store.regions = regions;
-    store.class = class;
+    store.program = given.program;
+    store.regions = given.regions;
+    store.class = given.class;
     store.most = most;
     store.made = 0;
     let by = Actor {
         thread: 0,
-        maker: Maker::Class(class),
+        maker: Maker::Class(given.class),
     };
     let mut spares = Spares::none(alloc);
-    execute(alloc, &mut spares, program, by, frame, store)
+    execute(alloc, &mut spares, given.program, by, frame, store)
 }
 
 /// A call: the frame of the method called stands on its caller, which loses the arguments.
@@ -135,26 +141,16 @@ fn halted(stop: Stop) -> Result<Halt, AllocError>
 /// `AllocError` where memory is refused.
 pub fn take_turn<'a>(
     alloc: Global,
-    program: &'a Program,
-    regions: &'a Regions,
-    class: u32,
+    given: Initializer<'a>,
     store: &mut Build<'a>,
     segment: &mut Segment,
     most: u64,
 ) -> Result<Turn, AllocError>
-    ensures { IfOk result (λ turn. IsTurn (program_of program.now) (environment_of regions.now) class
-        (frames_of segment.old) (region_of store.old.own) (suc most) turn (frames_of segment.new)
-        (region_of store.new.own) (most - store.new.made)) }
+    ensures { IfOk result (λ turn. IsTurn (program_of given.entry.program.now)
+        (environment_of given.entry.regions.now) given.entry.class (frames_of segment.old) (region_of store.old.own)
+        (suc most) turn (frames_of segment.new) (region_of store.new.own) (most - store.new.made)) }
 {
-    match perform(
-        alloc,
-        program,
-        regions,
-        class,
-        store,
-        &mut segment.innermost,
-        most,
-    ) {
+    match perform(alloc, given, store, &mut segment.innermost, most) {
         Ok(conclusion) => conclude(segment, conclusion),
         Err(stop) => Ok(Turn::Stopped(halted(stop)?)),
     }

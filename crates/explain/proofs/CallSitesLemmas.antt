@@ -10,14 +10,15 @@ use Rattle.bytecode.specs.declared.placed.Placed.{Placed}
 use Rattle.hierarchy.specs.declared.member.DeclaredMember.{DeclaredMember}
 use Rattle.program.specs.declared.class.Implementation.{Implementation}
 use Rattle.program.specs.declared.class.Implementation.TheVariants as implementations
-use Rattle.program.specs.Tables.{Tables, implementation_at, instruction_of, instruction_at}
+use Rattle.program.specs.Tables.{Tables, implementation_at, instruction_at}
 use Rattle.machine.specs.Operations.{Operation, operation_of, operation_at, resolved_operation}
 use Rattle.use_graph.specs.declared.callee.Callee.{Callee}
 use Rattle.use_graph.specs.Code.{callee_of, MayRunFor}
-use Rattle.use_graph.specs.Uses.{Calls, pc_of, pc_at}
+use Rattle.use_graph.specs.Uses.{Calls, pc_at}
 use Rattle.use_graph.specs.steps.Deeds.{operation_for, body_in}
 use Rattle.explain.specs.Paths.{CallsAt}
 use Rattle.explain.specs.steps.Callers.{MayCall}
+use Rattle.use_graph.proofs.DeedsLemmas.{instruction_in, pc_in}
 
 -- what touches its frame alone calls nobody, and what it would resolve to neither
 same_callee : (P : Tables) (d k : ℕ) (i : Instruction)
@@ -80,20 +81,6 @@ same_callee P d k instructions.Unsupported = refl
 same_callee P d k instructions.Bad = refl
 
 -- ---- places
-
-instruction_in : (o : Option Implementation) (place : ℕ)
-    → instruction_of o place ≡ option_map (λ (item : Placed). item.instruction) (slice_get (body_in o) place)
-instruction_in None place = refl
-instruction_in (Some (implementations.Code code)) place = refl
-instruction_in (Some implementations.Abstract) place = refl
-instruction_in (Some implementations.Unsupported) place = refl
-
-pc_in : (o : Option Implementation) (place : ℕ)
-    → pc_of o place ≡ option_map (λ (item : Placed). item.pc) (slice_get (body_in o) place)
-pc_in None place = refl
-pc_in (Some (implementations.Code code)) place = refl
-pc_in (Some implementations.Abstract) place = refl
-pc_in (Some implementations.Unsupported) place = refl
 
 module _ (P : Tables) (x y : DeclaredMember) where
   abbrev body : List Placed

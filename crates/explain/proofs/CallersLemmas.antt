@@ -10,7 +10,7 @@ use Rattle.use_graph.specs.declared.whole_program.UseGraph.{UseGraph}
 use Rattle.use_graph.specs.Uses.{Calls}
 use Rattle.use_graph.specs.steps.CallGraphs.{IsEdge, calls, selects, named}
 use Rattle.explain.specs.declared.search.Search.{Search}
-use Rattle.explain.specs.declared.paths.Step.{Step}
+use Rattle.explain.specs.declared.paths.PathStep.{PathStep}
 use Rattle.explain.specs.Paths.{CallsAt, Lead, IsPath}
 use Rattle.explain.specs.steps.Callers.{AddsCall, HasRoot, IsCaller, IsSearched, IsWay, NoneStandsAt, StandsAt}
 
@@ -130,7 +130,7 @@ module _ (P : Tables) (uses : UseGraph) (search : Search) (place : ℕ) (callee 
 
   -- ---- what is answered
 
-  caller_at : (step : Step) (f : ℕ) → step.place ≡ f → Stands f step.method → Calling f
+  caller_at : (step : PathStep) (f : ℕ) → step.place ≡ f → Stands f step.method → Calling f
       → IsCaller P uses search place callee step
   caller_at step f is stands (low, x, here, goes) =
       let same : x ≡ step.method = one_stands uses.methods search.seen.items f x step.method here stands in
@@ -141,7 +141,7 @@ module _ (P : Tables) (uses : UseGraph) (search : Search) (place : ℕ) (callee 
       }
 
   -- a method stands at the finder
-  pub first_back : (step : Step) (f : ℕ) → slice_get search.finders.items place ≡ Some f → step.place ≡ f
+  pub first_back : (step : PathStep) (f : ℕ) → slice_get search.finders.items place ≡ Some f → step.place ≡ f
       → Stands f step.method → IsCaller P uses search place callee step
   first_back step f finder is stands =
       let (g, found, back) = way_back in
@@ -177,7 +177,7 @@ module _ (P : Tables) (uses : UseGraph) (search : Search) (place : ℕ) (callee 
       (let (g, before, calling) = second_back f finder none in let two : None ≡ Some g = sym missing ∙ before in cc)
 
   -- what stands at the second finder
-  pub last_back : (f g : ℕ) (step : Option Step) → slice_get search.finders.items place ≡ Some f
+  pub last_back : (f g : ℕ) (step : Option PathStep) → slice_get search.finders.items place ≡ Some f
       → NoneStandsAt uses.methods search.seen.items f → slice_get search.finders.items f ≡ Some g
       → MatchOption step (NoneStandsAt uses.methods search.seen.items g)
       (λ step. (step.place ≡ g) × Stands g step.method)
@@ -188,7 +188,7 @@ module _ (P : Tables) (uses : UseGraph) (search : Search) (place : ℕ) (callee 
       calling = (let (h, there, calling) = second_back f finder none in
           subst Calling (same_some (slice_get search.finders.items f) h g there before) calling)
 
-      by : (step : Option Step)
+      by : (step : Option PathStep)
           → MatchOption step (NoneStandsAt uses.methods search.seen.items g)
           (λ step. (step.place ≡ g) × Stands g step.method) → MatchOption step ⊥ (IsCaller P uses search place callee)
       by None missing = missing calling.1 calling.2

@@ -93,11 +93,6 @@ next_is verdicts c e is = by (slice_get verdicts c) refl
     by (Some verdict) at = at ∙ ap (λ (v : Verdict). Some v)
         (depended_so verdict e (sym (is ∙ ap (option_and_then depended) at)))
 
-pub next_none : (verdicts : List Verdict) (c : ℕ) → None ≡ option_and_then depended (slice_get verdicts c)
-    → (e : ℕ) → DependsOn verdicts c e → ⊥
-next_none verdicts c none e depends =
-    (let two : None ≡ Some e = none ∙ ap (option_and_then depended) depends in absurd cc)
-
 -- where what a class depends on it uses, a chain is one of uses
 pub chain_uses : (P : Tables) (verdicts : List Verdict) (c : ℕ) (chain : List ℕ) (last : ℕ)
     → Chained (DependsOn verdicts) c chain last → DependOnUses P verdicts

@@ -128,16 +128,6 @@ module _ (pairs : List Pair) (found : List Source) (v : ℕ) (g : Goal) (here : 
 
 -- ---- several are
 
-pub adds_none : (Given : Source → Type 0) (pairs : List Pair) (found : List Source) → ((s : Source) → ¬ Given s)
-    → AddsAll Given pairs found pairs found
-adds_none Given pairs found none = record {
-  len = refl;
-  keeps = λ w h has. has;
-  stays = λ k s there. there;
-  serves = λ s given. absurd (none s given);
-  only = λ w h has. inl has;
-}
-
 pub adds_more : (Given Also All : Source → Type 0) (a b c : List Pair) (fa fb fc : List Source)
     → AddsAll Given a fa b fb → AddsAll Also b fb c fc → ((s : Source) → All s → Given s ⊎ Also s)
     → ((s : Source) → Given s ⊎ Also s → All s) → AddsAll All a fa c fc
@@ -175,9 +165,6 @@ adds_as Given All a b fa fb adds same = record {
 
 below_or : (k i : ℕ) → k < i + 1 → (k < i) ⊎ (k ≡ i)
 below_or k i low = grind arith
-
-pub none_before : {A : Type 0} (xs : List A) (x : A) → ¬ IsBefore xs 0 x
-none_before xs x (k, low, at) = absurd (omega (arith, low))
 
 pub before_splits : {A : Type 0} (xs : List A) (i : ℕ) (y x : A) → slice_get xs i ≡ Some y
     → IsBefore xs (i + 1) x → IsBefore xs i x ⊎ (x ≡ y)

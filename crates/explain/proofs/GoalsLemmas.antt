@@ -14,11 +14,6 @@ same_option (Some a) None = inr (λ e. absurd cc)
 same_option (Some a) (Some b) =
     elim (same_or a b) [ inl same ↦ inl (ap Some same) | inr other ↦ inr (λ e. other cc) ]
 
--- the first one serves as well
-pub offers_first : (pair : Pair) (g first : Goal) → pair.first ≡ Some first → first.field_class ≡ g.field_class
-    → Offers pair g
-offers_first pair g first is same = λ class other. (first, inl is, λ also. other (sym same ∙ also))
-
 -- one of two serves for any class
 pub offers_both : (pair : Pair) (g first second : Goal) → IsPair pair → pair.first ≡ Some first
     → pair.second ≡ Some second → Offers pair g

@@ -52,35 +52,11 @@ source_at uses mark v m b s at here = (
   λ (t, among, (vertex, goal)). (vertex, (m, b, at, here, (t, among, goal))),
 )
 
-pub no_method_source : (uses : UseGraph) (mark : Mark) (v : ℕ) (s : Source) → slice_get uses.methods v ≡ None
-    → ¬ IsSourceAt uses mark v s
-no_method_source uses mark v s none (vertex, (n, x, is, there, held)) =
-    (let two : None ≡ Some n = sym none ∙ is in cc)
-
-pub no_body_source : (uses : UseGraph) (mark : Mark) (v : ℕ) (s : Source) → slice_get uses.bodies.items v ≡ None
-    → ¬ IsSourceAt uses mark v s
-no_body_source uses mark v s none (vertex, (n, x, is, there, held)) =
-    (let two : None ≡ Some x = sym none ∙ there in cc)
-
-pub nothing_more : {A : Type 0} (old : List A) (x : A) (More : Type 0) → ¬ More
-    → Contains old x ↔ (Contains old x ⊎ More)
-nothing_more old x More none = (
-  λ was. inl was,
-  λ either. elim either [ inl was ↦ was | inr more ↦ absurd (none more) ],
-)
-
 pub either_as : {A : Type 0} (old new : List A) (x : A) (More Other : Type 0)
     → Contains new x ↔ (Contains old x ⊎ More) → Other ↔ More → Contains new x ↔ (Contains old x ⊎ Other)
 either_as old new x More Other adds same = (
   λ p. elim (adds.0 p) [ inl was ↦ inl was | inr more ↦ inr (same.1 more) ],
   λ p. elim p [ inl was ↦ adds.1 (inl was) | inr other ↦ adds.1 (inr (same.0 other)) ],
-)
-
-pub below_none : (uses : UseGraph) (mark : Mark) (sources : List Source) → sources ≡ []
-    → AreSourcesBelow uses mark 0 sources
-below_none uses mark sources none s = (
-  λ (k, low, at). absurd (let no : length sources ≡ 0 = ap length none in omega (arith, low, no)),
-  λ (low, goal). absurd (omega (arith, low)),
 )
 
 pub below_or : (k i : ℕ) → k < i + 1 → (k < i) ⊎ (k ≡ i)

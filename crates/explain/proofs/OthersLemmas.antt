@@ -4,8 +4,8 @@ use Rattle.std.proofs.Common.{length, option_map, refl, ap, sym, inl, inr, arith
 use Rattle.std.proofs.Math.Path.{fun_ext}
 use Rattle.vm_state.specs.SharedState.{Region as RegionOf}
 use Rattle.semantics.specs.Quiet.{Environment}
-use Rattle.evaluator.specs.declared.regions.Region.{Region}
-use Rattle.evaluator.specs.Regions.{environment_of, region_in, region_of, with_region}
+use Rattle.region_shape.specs.declared.regions.Region.{Region}
+use Rattle.region_shape.specs.Regions.{environment_of, region_in, region_of, with_region}
 use Rattle.object_graph.specs.Images.{AreSmall, ImageTables}
 use Rattle.explain.specs.Reruns.{without}
 use Rattle.explain.specs.steps.Others.{AreFirst}

@@ -1,5 +1,5 @@
 -- Two of some classes, as classes come.
-use Rattle.std.proofs.Common.{◌≡◌, ◌≢◌, ◌∙◌, ◌⊎◌, ℕ, Option, Some, None, MatchOption, refl, sym, ap, subst, inl, inr}
+use Rattle.std.proofs.Common.{◌≡◌, ◌∙◌, ◌⊎◌, ℕ, Option, Some, None, refl, sym, ap, subst, inl, inr}
 use Rattle.explain.specs.steps.Pairs.{HasPair}
 
 none_some : {A : Type 0} (x : A) → None ≡ Some x → ⊥
@@ -72,24 +72,3 @@ pair_none Member none = record {
   some = λ d member. absurd (none d member);
   other = λ d member. absurd (none d member);
 }
-
--- ---- another one than a member
-
-module _ (Member : ℕ → Type 0) (first second : Option ℕ) (c : ℕ) (pair : HasPair Member first second) where
-  abbrev IsOther : Option ℕ → Type 0
-  IsOther found = MatchOption found ((d : ℕ) → Member d → d ≡ c) (λ d. Member d × (d ≢ c))
-
-  -- the first, where it is another
-  pub first_other : (d : ℕ) → first ≡ Some d → d ≢ c → IsOther (Some d)
-  first_other d e other = (pair.first_is d e, other)
-
-  -- else the second
-  pub second_other : Member c → (first ≡ Some c) → IsOther second
-  second_other member here = by second refl
-    where
-      by : (found : Option ℕ) → second ≡ found → IsOther found
-      by None none = λ d one. elim (pair.other d one) [
-        | inl e ↦ same_some d c (sym e ∙ here)
-        | inr (x, f) ↦ absurd (none_some x (sym none ∙ f))
-      ]
-      by (Some d) there = (pair.second_is d there, λ same. pair.apart c d here there (sym same))

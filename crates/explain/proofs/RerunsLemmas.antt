@@ -7,7 +7,7 @@ use Rattle.semantics.specs.Settling.{Settles, StoppedBy, StopExcludes, OneStop}
 use Rattle.evaluator.specs.declared.outcome.Ending.{Ending}
 use Rattle.evaluator.specs.declared.outcome.Ending.TheVariants as endings
 use Rattle.evaluator.specs.Outcomes.{IsEnding, stop_of}
-use Rattle.evaluator.specs.Regions.{region_of}
+use Rattle.region_shape.specs.Regions.{region_of}
 use Rattle.explain.specs.Reruns.{CostsMore, EndsAt, IsLeast}
 use Rattle.explain.specs.steps.Over.{IsOver}
 

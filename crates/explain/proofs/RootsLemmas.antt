@@ -1,5 +1,5 @@
 -- The ends of chains.
-use Rattle.std.proofs.Common.{◌≡◌, ◌∙◌, ◌⊎◌, ℕ, zero, suc, ◌<◌, List, [], ◌∷◌, ◌++◌, length, get_or, set}
+use Rattle.std.proofs.Common.{◌≡◌, ◌⊎◌, ℕ, zero, suc, ◌<◌, List, [], ◌∷◌, ◌++◌, length, get_or, set}
 use Rattle.std.proofs.Common.{Some, slice_get, refl, sym, ap, subst, inl, inr, arith}
 use Rattle.initializer_analysis.specs.declared.verdict.Verdict.{Verdict}
 use Rattle.explain.specs.Chains.{Chained, alone, on, DependsOn, Leads}
@@ -52,9 +52,6 @@ at_or (x ∷ xs) zero other low = refl
 at_or (x ∷ xs) (suc i) other low = at_or xs i other (omega (arith, low))
 
 -- ---- roots
-
-pub roots_none : (verdicts : List Verdict) → AreRoots verdicts []
-roots_none verdicts c e at = absurd cc
 
 pub roots_push : (verdicts : List Verdict) (roots : List ℕ) (root : ℕ) → AreRoots verdicts roots
     → Leads verdicts (length roots) root → AreRoots verdicts (roots ++ root ∷ [])

@@ -10,30 +10,22 @@ use Rattle.built_in.specs.declared.class_id.ClassId.TheVariants as class
 use Rattle.loading.specs.Families.{Family, file_of}
 use Rattle.loading.specs.declared.given.GivenClass.{GivenClass}
 use Rattle.hierarchy.specs.Initialization.{given_superclasses}
-use Rattle.hierarchy.specs.MemberLookup.{flags_in, flags_of, is_inherited, is_private, keep_if, key_in, method_in}
+use Rattle.hierarchy.specs.MemberLookup.{flags_in, is_inherited, is_private, key_in, method_in}
 use Rattle.hierarchy.specs.MemberLookup.{method_of}
 use Rattle.hierarchy.specs.Resolution.{instance_method_in}
 use Rattle.hierarchy.specs.Selectable.{IsSelectable}
-use Rattle.hierarchy.specs.Selection.{declared_by, first_declared, found_from, found_if, member_at_end, method_at}
+use Rattle.hierarchy.specs.Selection.{declared_by, first_declared, found_from, member_at_end, method_at}
 use Rattle.hierarchy.specs.Selection.{selected, the_default}
 use Rattle.hierarchy.specs.Subtypes.{end_of_chain}
 use Rattle.hierarchy.specs.declared.member.Method.{Method}
 use Rattle.hierarchy.specs.declared.member.Method.TheVariants as method
 use Rattle.hierarchy.proofs.SelectableLemmas.{found_declares, nothing_selected, private_alone, selects_built_in}
-use Rattle.hierarchy.proofs.SelectableLemmas.{selects_given}
+use Rattle.hierarchy.proofs.SelectableLemmas.{selects_given, kept_same, selects_itself, private_within}
 
 abbrev IsOwn : Family → Method → ℕ → ℕ → Type 0
 IsOwn family m d k = (d < length family) × (selected family (class.Given d) m ≡ Some (method.Given d k))
 
 -- ---- a method that a class declares by a name and a descriptor
-
-kept_same : (test : ℕ → Bool) (flags : ℕ → ℕ) (o : Option ℕ) (k : ℕ) → keep_if test flags o ≡ Some k → o ≡ Some k
-kept_same test flags None k e = e
-kept_same test flags (Some j) k e = by (test (flags j)) e
-  where
-    by : (b : Bool) → cond b (Some j) None ≡ Some k → Some j ≡ Some k
-    by true e = e
-    by false e = absurd cc
 
 declared_within : (family : Family) (name : NameAndType) (d k : ℕ) → instance_method_in family name d ≡ Some k
     → d < length family
@@ -66,22 +58,6 @@ own_found family name e d k found =
     (declared_within family name d k has, declared_found family name d k has)
 
 -- ---- a private one
-
-selects_itself : (family : Family) (c j : ℕ) → is_private (flags_in family c j) ≡ true → (e : ℕ)
-    → selected family (class.Given e) (method.Given c j) ≡ Some (method.Given c j)
-unfolding selected
-selects_itself family c j private e =
-    ap (λ (b : Bool). cond b (Some (method.Given c j))
-    (found_if is_inherited family (class.Given e) (key_in family c j)))
-    private
-
-private_within : (family : Family) (c j : ℕ) → is_private (flags_in family c j) ≡ true → c < length family
-private_within family c j private = by (slice_get family c) refl private
-  where
-    by : (o : Option GivenClass) → slice_get family c ≡ o → is_private (flags_of (file_of o) j) ≡ true
-        → c < length family
-    by None at e = absurd cc
-    by (Some g) at e = slice_get_within family c g at
 
 -- ---- any
 

@@ -6,7 +6,7 @@ use Rattle.semantics.specs.Settling.{Settles, StoppedBy}
 use Rattle.evaluator.specs.declared.outcome.Ending.{Ending}
 use Rattle.evaluator.specs.declared.outcome.Ending.TheVariants as endings
 use Rattle.evaluator.specs.Outcomes.{stop_of}
-use Rattle.evaluator.specs.Regions.{environment_of, region_of}
+use Rattle.region_shape.specs.Regions.{environment_of, region_of}
 use Rattle.machine.specs.Linked.{program_of}
 use Rattle.object_graph.specs.Images.{ImageTables}
 use Rattle.explain.specs.declared.reruns.Rerun.{Rerun}

@@ -18,19 +18,19 @@ use use_graph::mark::Evidence;
 
 /// A method and its place in a search.
 #[derive(Clone, Copy)]
-pub(crate) struct Step {
+pub(crate) struct PathStep {
     pub(crate) place: usize,
     pub(crate) method: DeclaredMember,
 }
 
 /// The method of a place of a search, if it is one.
-pub(crate) fn step_at(uses: &UseGraph, search: &Search, place: usize) -> Option<Step>
+pub(crate) fn step_at(uses: &UseGraph, search: &Search, place: usize) -> Option<PathStep>
     ensures { MatchOption result (NoneStandsAt uses.now.methods search.now.seen.items place)
         (λ step. (step.place ≡ place) × StandsAt uses.now.methods search.now.seen.items place step.method) }
 {
     let vertex = search.seen.items().get(place)?;
     let method = uses.methods.method(*vertex)?;
-    Some(Step { place, method })
+    Some(PathStep { place, method })
 }
 
 /// The place from where the vertex of a place was found.
@@ -42,7 +42,7 @@ fn finder_of(search: &Search, place: usize) -> Option<usize>
 
 /// The nearest method on the way back from a place of a search: that of its finder, or where this is all that is
 /// selected by a name and a descriptor, that of its finder.
-fn caller_of(uses: &UseGraph, search: &Search, place: usize) -> Option<Step>
+fn caller_of(uses: &UseGraph, search: &Search, place: usize) -> Option<PathStep>
     ensures { (P : Tables) (callee : Declared) → IsWay P uses.now search.now place callee
         → MatchOption result ⊥ (IsCaller P uses.now search.now place callee) }
 {
@@ -63,9 +63,9 @@ fn add_call(
     program: &Program,
     uses: &UseGraph,
     search: &Search,
-    callee: Step,
+    callee: PathStep,
     path: &mut Vec<Evidence>,
-) -> Result<Step, AllocError>
+) -> Result<PathStep, AllocError>
     requires { IsWay program.now uses.now search.now callee.place callee.method }
     ensures caller { IfOk result (IsCaller program.now uses.now search.now callee.place callee.method) }
     ensures call { IfOk result

@@ -5,15 +5,15 @@ ghost use Rattle.std.specs.Bool.{MatchBool};
 ghost use Rattle.semantics.specs.Quiet.{OverBudget, Refused};
 ghost use Rattle.machine.specs.Linked.{program_of};
 ghost use Rattle.evaluator.specs.Outcomes.{stop_of};
-ghost use Rattle.evaluator.specs.Regions.{environment_of};
+ghost use Rattle.region_shape.specs.Regions.{environment_of};
 ghost use Rattle.explain.specs.Reruns.{CostsMore, IsLeast, IsRerunIn, without};
 ghost use Rattle.explain.specs.steps.Over.{IsOver};
 
 use evaluator::outcome::{Ending, Halt, Refusal};
-use evaluator::regions::{Region, Regions};
 use evaluator::settling::evaluate;
 use object_graph::Image;
 use program::Program;
+use region_shape::regions::{Region, Regions};
 use std::alloc::{AllocError, Global};
 
 /// How an initializer ends within the least budget in which it does not cost too much, or in the greatest.

@@ -1,7 +1,7 @@
 //! Lines of what a run of an initializer shows.
 
 ghost use Rattle.std.specs.Prelude.{◌≡◌, IfOk, string_bytes};
-ghost use Rattle.evaluator.specs.Regions.{environment_of};
+ghost use Rattle.region_shape.specs.Regions.{environment_of};
 ghost use Rattle.explain.specs.Texts.{is_of_run, made_count, IsCostLine, IsRunText, IsStopText};
 
 use crate::reruns::run_again;

@@ -2,12 +2,12 @@
 
 use built_in::class_id::{ArrayType, ClassId, ElementType};
 use classfile::ClassName;
-use evaluator::regions::Region;
 use image_format::elements::kind_of_elements;
 use image_format::names::class_name;
 use object_graph::Image;
 use program::Program;
 use program::runtime_constant::FieldKind;
+use region_shape::regions::Region;
 use std::alloc::{AllocError, Global};
 use vm_state::kept::Kept;
 use vm_state::object::Slots;

@@ -1,4 +1,4 @@
-//! What holds of every instruction that touches its own frame alone.
+//! The law of the instructions that touch their own frame alone.
 
 ghost use Rattle.frame_instructions.specs.Laws.{LocalNames, LocalMethods, StraightPlaces};
 

@@ -46,7 +46,7 @@ fn is_category_1(value: Value) -> bool
     value.places() == 1
 }
 
-/// The value below so many others and one more.
+/// The value below `others` others and one more.
 #[tactic(auto, using(vm_state::proofs::OperandLemmas::dropped_more))]
 #[inline(always)]
 fn next_below(cells: &Cells, others: u8) -> Result<Value, Fault>
@@ -56,7 +56,7 @@ fn next_below(cells: &Cells, others: u8) -> Result<Value, Fault>
     cells.below(others as usize + 1)
 }
 
-/// The group of so many places below so many values.
+/// The group of these places below `others` values.
 #[tactic(auto, unfolding(crate::specs::Rearranging::group_of))]
 #[inline(always)]
 fn group_of(cells: &Cells, places: Places, others: u8) -> Result<Group, Fault>

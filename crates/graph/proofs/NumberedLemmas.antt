@@ -1,5 +1,5 @@
 -- Vertices that have numbers are whole components: one more component, and all.
-use Rattle.std.proofs.Common.{◌≡◌, ℕ, zero, suc, ◌+◌, ◌<◌, ◌≤◌, ◌↔◌, ◌⊎◌, List, [], length, take, slice_index, inl, inr}
+use Rattle.std.proofs.Common.{◌≡◌, ℕ, zero, suc, ◌+◌, ◌<◌, ◌≤◌, ◌↔◌, ◌⊎◌, List, length, take, slice_index, inl, inr}
 use Rattle.std.proofs.Common.{refl, sym, subst, arith, ◌∙◌}
 use Rattle.std.proofs.lemmas.Bool.{cases_eq, cases_lt}
 use Rattle.std.specs.List.{All, Contains}
@@ -247,18 +247,6 @@ numbered_next back order old before new numbers place turned within later distin
     old_places i j le less = omega (arith, at_old i (omega arith), at_old j less, n.ascending i j le less)
 
 -- ---- none and all
-
-pub numbered_none : (back : Rows) (items numbers : List ℕ) → items ≡ [] → Numbered back items numbers
-numbered_none back items numbers e = rw e (record {
-  distinct = λ x. omega arith;
-  few = omega arith;
-  within = λ k d h. absurd (omega arith);
-  closed = λ a b h. absurd (omega (arith, h.1));
-  rises = λ a b h. absurd (omega (arith, h.1));
-  shared = λ a b h. absurd (omega (arith, h.1));
-  ascending = λ i j le h. absurd (omega arith);
-  low = λ v h. absurd (omega (arith, h.1));
-})
 
 pub numbered_all : (graph back : Rows) (parts : Parts) → IsReverse graph back → AreNumbered back parts
     → AreComponents graph parts

@@ -1,16 +1,16 @@
 -- Graphs with their edges turned round.
 use Rattle.std.proofs.Common.{◌≡◌, ℕ, ◌+◌, ◌<◌, ◌≤◌, ◌↔◌, ◌⊎◌, List, [], ◌∷◌, ◌++◌, length, take, set, slice_index, inl}
-use Rattle.std.proofs.Common.{inr, refl, sym, subst, arith, ◌∙◌, replicate}
+use Rattle.std.proofs.Common.{inr, refl, sym, subst, arith, ◌∙◌}
 use Rattle.std.proofs.lemmas.Bool.{cases_eq}
 use Rattle.std.specs.List.{All, Contains}
-use Rattle.std.proofs.lemmas.List.{length-set, length-replicate, take_more}
+use Rattle.std.proofs.lemmas.List.{length-set, take_more}
 use Rattle.std.proofs.lemmas.List.Elements.{Contains-push, Contains-push_cases, Contains-append_left}
 use Rattle.graph.specs.Rows.{Rows, successors_of}
 use Rattle.graph.specs.Reaches.{Reaches, itself, along}
 use Rattle.graph.specs.Components.{AreMutual}
 use Rattle.graph.specs.steps.Reverse.{IsReverse, IsReverseBelow, AddsEdges}
 use Rattle.graph.specs.steps.Finishing.{IsFinishingOrder, IsTurnedOrder}
-use Rattle.graph.proofs.RowsLemmas.{successors_of-set_same, successors_of-set_other, successors_of-empty, has_successor}
+use Rattle.graph.proofs.RowsLemmas.{successors_of-set_same, successors_of-set_other, has_successor}
 use Rattle.graph.proofs.ReachesLemmas.{Reaches-joined}
 
 -- ---- the edges, as they are added
@@ -32,12 +32,6 @@ edge_added graph from to a b small = elim (cases_eq b from) [
     λ h. elim h [ inl o ↦ o | inr (_, is) ↦ absurd (n is) ],
   )
 ]
-
-pub adds_no_edges : (graph : Rows) (to : ℕ) → AddsEdges graph [] to graph
-adds_no_edges graph to = record {
-  len = refl;
-  edges = λ a b. (λ h. inl h, λ h. elim h [ inl o ↦ o | inr (_, none) ↦ absurd (omega (arith, none.1)) ]);
-}
 
 pub adds_edge : (old mid new : Rows) (row : List ℕ) (i to from : ℕ) → i < length row → from ≡ slice_index row i
     → from < length mid
@@ -62,15 +56,6 @@ adds_edge old mid new row i to from h e small is s = rw (is, take_more row i 0 h
     ],
   ));
 })
-
-pub reverse_below_none : (graph : Rows) → IsReverseBelow graph (replicate (length graph) []) 0
-reverse_below_none graph = record {
-  len = length-replicate (length graph) [];
-  edges = λ a b. (
-    λ h. absurd (omega (arith, (rw (successors_of-empty (length graph) b) at h).1)),
-    λ h. absurd (omega (arith, h.0)),
-  );
-}
 
 pub reverse_below_more : (graph old new : Rows) (v : ℕ) → IsReverseBelow graph old v
     → AddsEdges old (successors_of graph v) v new → IsReverseBelow graph new (v + 1)

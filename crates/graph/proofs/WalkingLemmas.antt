@@ -1,6 +1,6 @@
 -- The steps of a walk in depth.
 use Rattle.std.proofs.Common.{◌≡◌, ℕ, ◌+◌, ◌-◌, ◌<◌, ◌≤◌, List, [], ◌∷◌, ◌++◌, length, take, set, slice_index, ◌⊎◌, inl}
-use Rattle.std.proofs.Common.{inr, refl, sym, subst, arith, Bool, true, false}
+use Rattle.std.proofs.Common.{inr, refl, sym, subst, arith}
 use Rattle.std.proofs.lemmas.Bool.{cases_eq, cases_lt}
 use Rattle.std.specs.List.{Contains}
 use Rattle.std.proofs.lemmas.Grind.{common_steps}
@@ -9,7 +9,7 @@ use Rattle.std.proofs.lemmas.List.Elements.{All-push, All-contains, All-contains
 use Rattle.std.proofs.lemmas.List.Elements.{Contains-append_left, Contains-push, Contains-push_cases}
 use Rattle.graph.specs.Rows.{Rows, successors_of}
 use Rattle.graph.specs.Reaches.{Reaches, itself, along}
-use Rattle.graph.specs.Seen.{AreDistinct, Joins, count_of}
+use Rattle.graph.specs.Seen.{AreDistinct, count_of}
 use Rattle.graph.specs.Order.{IsPostorder}
 use Rattle.graph.specs.steps.Finishing.{IsFinishedOrLater, FinishesReached, IsFinishingOrder}
 use Rattle.graph.specs.steps.Walking.{Walking}
@@ -59,11 +59,6 @@ last_is_vertex graph seen path passed finished v w some last =
     All-contains (λ u. u < length graph) seen v w.within
     (on_path_is_seen graph seen path passed finished v w
     (subst (λ (u : ℕ). Contains path u) (sym last) (Contains-get_or path (length path - 1) 0 (omega arith))))
-
-pub fresh_only : (fresh : Bool) (old new : List ℕ) (b : ℕ) → (Contains old b → ⊥) → Joins fresh old b new
-    → new ≡ old ++ b ∷ []
-fresh_only true old new b absent s = s.1
-fresh_only false old new b absent s = absurd (absent s.0)
 
 -- ---- what is counted, as a vertex goes onto the path and from there to what is finished
 

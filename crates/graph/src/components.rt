@@ -65,7 +65,7 @@ pub fn components_of(alloc: Global, graph: &Graph) -> Result<Components, AllocEr
     components_by(alloc, graph, order.as_slice())
 }
 
-/// The same, from an order in which a walk in depth finishes the vertices (Kosaraju's algorithm).
+/// The components of a graph by an order in which a walk in depth finishes the vertices (Kosaraju's algorithm).
 pub(crate) fn components_by(
     alloc: Global,
     graph: &Graph,

@@ -36,7 +36,7 @@ fn leads_into(row: &[usize], components: &Components, number: usize) -> bool
     false
 }
 
-/// The same as `is_on_cycle`, where the components are known: it has an edge into its own component.
+/// Whether a vertex is on a cycle, by the graph's components: it has an edge into its own.
 pub fn is_on_cycle_by(graph: &Graph, components: &Components, vertex: usize) -> bool
     requires components { AreComponents graph.now components.now }
     requires vertex { vertex < length graph.now }

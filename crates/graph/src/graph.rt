@@ -25,7 +25,7 @@ impl Model for Graph {
 }
 
 impl Graph {
-    /// So many vertices, and no edge.
+    /// A graph of `count` vertices and no edge.
     ///
     /// # Errors
     /// Where memory runs out.
@@ -72,7 +72,7 @@ impl Graph {
     }
 }
 
-/// Adds a row without successors for each of so many vertices.
+/// Adds a row without successors for each of `count` vertices.
 fn add_rows(alloc: Global, count: usize, rows: &mut Vec<Vec<usize>>) -> Result<(), AllocError>
     requires { rows.old.items ≡ [] }
     ensures { OnOk result (rows_of rows.new.items ≡ replicate count []) }

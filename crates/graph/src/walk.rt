@@ -155,7 +155,7 @@ fn walk_all(walk: &mut Walk, graph: &Graph) -> Result<(), AllocError>
 }
 
 impl Walk {
-    /// The walk that was nowhere, over so many vertices.
+    /// The walk that was nowhere, over `count` vertices.
     fn new(alloc: Global, count: usize) -> Result<Walk, AllocError>
         ensures limit { IfOk result (λ walk. walk.seen.limit ≡ count) }
         ensures seen { IfOk result (λ walk. walk.seen.items ≡ []) }

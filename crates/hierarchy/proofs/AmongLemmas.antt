@@ -13,7 +13,7 @@ use Rattle.hierarchy.specs.Search.{Search}
 use Rattle.hierarchy.specs.steps.Above.{IsAmongOrAbove}
 use Rattle.hierarchy.specs.steps.ParentSteps.{AreSteps, class_of_step}
 use Rattle.hierarchy.specs.declared.member.DeclaredMember.{DeclaredMember}
-use Rattle.hierarchy.specs.declared.parents_first.Step.{Step}
+use Rattle.hierarchy.specs.declared.parents_first.ClassWithParents.{ClassWithParents}
 use Rattle.hierarchy.proofs.WalksOrderLemmas.{none_in_empty}
 
 -- ---- among classes or above them
@@ -68,11 +68,12 @@ module _ (family : Family) (own : ℕ → Option ℕ) where
 
 -- ---- one more step
 
-module _ (family : Family) (steps : List Step) (parents : List ℕ) (are : AreSteps family steps parents) where
+module _ (family : Family) (steps : List ClassWithParents) (parents : List ℕ)
+    (are : AreSteps family steps parents) where
   module _ (i : ℕ) (small : i < length steps) where
     pub step_within : (get_or steps i (record { class = 0; from = 0; to = 0 })).class < length family
     step_within =
-        let none : Step = record { class = 0; from = 0; to = 0 } in
+        let none : ClassWithParents = record { class = 0; from = 0; to = 0 } in
         subst (λ (n : ℕ). n < length family) (get_or-map class_of_step steps i none 0 small)
         (are.order.within i 0 (omega (arith, length-map steps class_of_step, small)))
 
@@ -80,7 +81,7 @@ module _ (family : Family) (steps : List Step) (parents : List ℕ) (are : AreSt
         → Contains (parents_in family (get_or steps i (record { class = 0; from = 0; to = 0 })).class) p
         → Contains (map class_of_step (take i steps)) p
     step_after p has =
-        let none : Step = record { class = 0; from = 0; to = 0 } in
+        let none : ClassWithParents = record { class = 0; from = 0; to = 0 } in
         subst (λ (l : List ℕ). Contains l p) (take-map class_of_step i steps)
         (are.order.after i (get_or steps i none).class p
         (slice_get-map class_of_step steps i ∙ ap (option_map class_of_step) (slice_get-get_or steps i none small)) has)
@@ -89,13 +90,13 @@ module _ (family : Family) (steps : List Step) (parents : List ℕ) (are : AreSt
         ++ (get_or steps i (record { class = 0; from = 0; to = 0 })).class ∷ []
         ≡ map class_of_step (take (i + 1) steps)
     step_next =
-        let none : Step = record { class = 0; from = 0; to = 0 } in
+        let none : ClassWithParents = record { class = 0; from = 0; to = 0 } in
         sym (ap (map class_of_step) (take_more steps i none small)
         ∙ map-append class_of_step (take i steps) (get_or steps i none ∷ []))
 
   pub all_done : (i c : ℕ) → length steps ≤ i → c < length family → Contains (map class_of_step (take i steps)) c
   all_done i c past small =
-      subst (λ (l : List Step). Contains (map class_of_step l) c) (sym (take_all i steps past))
+      subst (λ (l : List ClassWithParents). Contains (map class_of_step l) c) (sym (take_all i steps past))
       (are.order.whole c small)
 
 -- ---- a list that is read

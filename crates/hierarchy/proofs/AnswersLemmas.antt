@@ -21,8 +21,8 @@ use Rattle.hierarchy.specs.steps.Defaults.{AreFound, nothing, one, several, foun
 use Rattle.hierarchy.specs.steps.FoundAhead.{given_method}
 use Rattle.hierarchy.specs.steps.MemberKeys.{same_key, AreNumbers}
 use Rattle.hierarchy.specs.declared.declarations.Declaration.{Declaration}
-use Rattle.hierarchy.specs.declared.defaults.Found.{Found}
-use Rattle.hierarchy.specs.declared.defaults.Found.TheVariants as found
+use Rattle.hierarchy.specs.declared.defaults.FoundMethods.{FoundMethods}
+use Rattle.hierarchy.specs.declared.defaults.FoundMethods.TheVariants as found
 use Rattle.hierarchy.specs.declared.masks.Mask.{Mask}
 use Rattle.hierarchy.specs.declared.member.DeclaredMember.{DeclaredMember}
 use Rattle.hierarchy.specs.declared.bits.Known.{Known}
@@ -170,7 +170,7 @@ module _ (Is : ℕ → ℕ → Type 0) (seen more : List ℕ) (keeps : (i : ℕ)
       | inr not ↦ absurd (not k is)
     ]
 
-    pub found_on : (f : Found) → AreFound Is seen f → AreFound Is more f
+    pub found_on : (f : FoundMethods) → AreFound Is seen f → AreFound Is more f
     found_on found.Nothing (nothing free) = nothing (λ i k has is. free i k (was i k has is) is)
     found_on (found.One i k) (one among p only) = one (keeps i among) p (λ j l has is. only j l (was j l has is) is)
     found_on found.Several are = several_on are
@@ -204,13 +204,13 @@ module _ (Is : ℕ → ℕ → Type 0) (declared : List Declaration) (start : �
               (subst (λ (x : ℕ). Is x k) (sym there.5) is))
         ]
 
-    pub none_there : (f : Found) → AreFound Is (classes_with key (take start declared)) f
+    pub none_there : (f : FoundMethods) → AreFound Is (classes_with key (take start declared)) f
         → AreFound Is (classes_with key (take (start + 64) declared)) f
     none_there = found_on Is (classes_with key (take start declared))
         (classes_with key (take (start + 64) declared)) keeps old_or_none
 
   -- one place after another
-  module _ (bit : ℕ) (small : bit < 64) (f : Found)
+  module _ (bit : ℕ) (small : bit < 64) (f : FoundMethods)
       (are : AreFound Is (classes_with key (take (start + bit) declared)) f) where
     pub past_there : slice_get declared (start + bit) ≡ None
         → AreFound Is (classes_with key (take (start + (bit + 1)) declared)) f
@@ -370,7 +370,7 @@ module _ (h : NumberedFamily) (declared : List Declaration) (start : ℕ) (name 
 -- when all were seen
 module _ (family : Family) (name : NameAndType) (c : ℕ) (seen : List ℕ)
     (whole : (i k : ℕ) → interface_method_in family name i ≡ Some k → Contains seen i) where
-  pub default_told : (f : Found) → AreFound (IsDefault family name c) seen f
+  pub default_told : (f : FoundMethods) → AreFound (IsDefault family name c) seen f
       → MatchOption (only_of f) (HasNoDefault family name c) (λ x. IsTheDefault family name c x.class x.index)
   default_told found.Nothing (nothing free) = λ i k the. free i k (whole i k the.0.0.0.1) the.0
   default_told (found.One i k) (one among p only) = (

@@ -12,8 +12,8 @@ use Rattle.hierarchy.specs.MemberLookup.{interface_method_in, IsDefault, IsTheDe
 use Rattle.hierarchy.specs.MemberLookup.{is_abstract}
 use Rattle.hierarchy.specs.steps.Defaults.{AreFound, nothing, one, several, found_with, found_after, only_of, HasMethod}
 use Rattle.hierarchy.specs.steps.Defaults.{IsFree, AreCovered, AreParentsOf, Among}
-use Rattle.hierarchy.specs.declared.defaults.Found.{Found}
-use Rattle.hierarchy.specs.declared.defaults.Found.TheVariants as found
+use Rattle.hierarchy.specs.declared.defaults.FoundMethods.{FoundMethods}
+use Rattle.hierarchy.specs.declared.defaults.FoundMethods.TheVariants as found
 use Rattle.hierarchy.proofs.AboveLemmas.{ancestor_through}
 use Rattle.hierarchy.proofs.ClassSetLemmas.{by_parent}
 
@@ -29,13 +29,14 @@ module _ (Is : ℕ → ℕ → Type 0) (seen : List ℕ) (x : ℕ) where
     | inr last ↦ absurd (none l (subst (λ (n : ℕ). Is n l) (sym last) is))
   ]
 
-  no_more : (before : Found) → ((k : ℕ) → ¬ Is x k) → AreFound Is seen before → AreFound Is (seen ++ x ∷ []) before
+  no_more : (before : FoundMethods) → ((k : ℕ) → ¬ Is x k) → AreFound Is seen before
+      → AreFound Is (seen ++ x ∷ []) before
   no_more found.Nothing none (nothing free) = nothing (λ i k has is. free i k (none_there none i k has is) is)
   no_more (found.One i k) none (one among p only) =
       one (still i among) p (λ j l has is. only j l (none_there none j l has is) is)
   no_more found.Several none (several {i = i} {j = j} a p b q differ) = several (still i a) p (still j b) q differ
 
-  with_one : (before : Found) (k : ℕ) → Is x k → AreFound Is seen before
+  with_one : (before : FoundMethods) (k : ℕ) → Is x k → AreFound Is seen before
       → AreFound Is (seen ++ x ∷ []) (found_with before x k)
   with_one found.Nothing k is (nothing free) =
       one (Contains-push seen x) is (λ j l has other. elim (Contains-push_cases seen x j has) [
@@ -53,7 +54,7 @@ module _ (Is : ℕ → ℕ → Type 0) (seen : List ℕ) (x : ℕ) where
           (λ (same : i ≡ x). (let clash : true ≡ false = sym (eq-eqb i x same) ∙ e in cc))
   with_one found.Several k is (several {i = i} {j = j} a p b q differ) = several (still i a) p (still j b) q differ
 
-  pub one_more : (before : Found) (index : Option ℕ) → MatchOption index ((k : ℕ) → ¬ Is x k) (Is x)
+  pub one_more : (before : FoundMethods) (index : Option ℕ) → MatchOption index ((k : ℕ) → ¬ Is x k) (Is x)
       → AreFound Is seen before → AreFound Is (seen ++ x ∷ []) (found_after before x index)
   one_more before None none are = no_more before none are
   one_more before (Some k) is are = with_one before k is are
@@ -61,13 +62,6 @@ module _ (Is : ℕ → ℕ → Type 0) (seen : List ℕ) (x : ℕ) where
 -- before the first one
 pub none_yet : (Is : ℕ → ℕ → Type 0) → AreFound Is [] found.Nothing
 none_yet Is = nothing (λ i k has. absurd (omega (arith, has.1)))
-
--- a class has the method at the place where it is found, or nowhere
-pub at_place : (family : Family) (key : NameAndType) (i : ℕ) (index : Option ℕ)
-    → index ≡ interface_method_in family key i
-    → MatchOption index ((k : ℕ) → ¬ HasMethod family key i k) (HasMethod family key i)
-at_place family key i None e = λ k has. (let clash : None ≡ Some k = e ∙ has in cc)
-at_place family key i (Some k) e = sym e
 
 pub some_by : (o : Option ℕ) → is_some o ≡ true → (l : ℕ) × (o ≡ Some l)
 some_by None e = absurd cc
@@ -134,7 +128,7 @@ module _ (Is : ℕ → ℕ → Type 0) (among : List ℕ) where
   among_at x (Some k) has is = (has, is)
 
   module _ (asked : List ℕ) (whole : (i k : ℕ) → Is i k → Contains asked i) where
-    pub found_among : (found : Found) → AreFound (Among Is among) asked found → AreFound Is among found
+    pub found_among : (found : FoundMethods) → AreFound (Among Is among) asked found → AreFound Is among found
     found_among found.Nothing (nothing free) = nothing (λ i k has is. free i k (whole i k is) (has, is))
     found_among (found.One i k) (one a p only) = one p.0 p.1 (λ j l has is. only j l (whole j l is) (has, is))
     found_among found.Several (several a p b q differ) = several p.0 p.1 q.0 q.1 differ
@@ -215,7 +209,7 @@ module _ (family : Family) (key : NameAndType) (c : ℕ) (seen : List ℕ)
           default.0.1 over.0 over.2.0.0 ((ancestors over.0).0 over.1, over.2.0.1) over.2.1,
     )
 
-    pub when_all_seen : (all : Found) → AreFound (IsFree family key covered) seen all
+    pub when_all_seen : (all : FoundMethods) → AreFound (IsFree family key covered) seen all
         → MatchOption (only_of all) (HasNoDefault family key c) (λ x. IsTheDefault family key c x.class x.index)
     when_all_seen found.Nothing (nothing free) = λ i k the.
         free i k ((ancestors i).1 the.0.0.0.0) (default_is_free i k the.0)

@@ -18,16 +18,6 @@ use Rattle.hierarchy.specs.declared.member_key.ClassMember.{ClassMember}
 use Rattle.hierarchy.specs.declared.member_key.MemberKey.{MemberKey}
 use Rattle.hierarchy.proofs.MemberKeysLemmas.{member_is}
 
--- numbers are those of one name and descriptor
-pub one_name : (texts : List (List ℕ)) (a b : NameAndType) (key : MemberKey) → AreNumbers texts a key
-    → AreNumbers texts b key → a ≡ b
-one_name texts a b key of_a of_b =
-    let names : Some a.name ≡ Some b.name = sym of_a.name ∙ of_b.name in
-    let descriptors : Some a.descriptor ≡ Some b.descriptor = sym of_a.descriptor ∙ of_b.descriptor in
-    let n : a.name ≡ b.name = cc in
-    let d : a.descriptor ≡ b.descriptor = cc in
-    λ i. record { name = n i; descriptor = d i }
-
 -- one more is found
 module _ (texts : List (List ℕ)) (Resolves : NameAndType → ℕ → Option DeclaredMember → Type 0) (old new : FoundAhead)
     (class : ℕ) (key : MemberKey) (member : Option DeclaredMember) where

@@ -2,27 +2,14 @@
 use Rattle.std.proofs.Common.{◌≡◌, ◌≢◌, ℕ, Option, Some, None, sym, subst}
 use Rattle.built_in.specs.declared.class_id.BuiltIn.{BuiltIn}
 use Rattle.built_in.specs.Keys.{NameAndType}
-use Rattle.loading.specs.Families.{Family, superclass_in}
+use Rattle.loading.specs.Families.{Family}
 use Rattle.built_in.specs.Methods.{HasMember, key_of_member}
-use Rattle.hierarchy.specs.MemberLookup.{UpClasses, here, up, beyond, member, no_member}
+use Rattle.hierarchy.specs.MemberLookup.{UpClasses, member, no_member}
 use Rattle.built_in.specs.declared.method.BuiltInMethod.{BuiltInMethod}
 use Rattle.hierarchy.specs.declared.member.Method.{Method}
 use Rattle.hierarchy.specs.declared.member.Method.TheVariants as method
 use Rattle.loading.specs.declared.given.Superclass.{Superclass}
 use Rattle.loading.specs.declared.given.Superclass.TheVariants as super
-
-pub one_up : (family : Family) (own : ℕ → Option ℕ) (key : NameAndType) (at s : Superclass) (c : ℕ) (r : Option Method)
-    → at ≡ super.Given c
-    → own c ≡ None → superclass_in family c ≡ Some s → UpClasses family own key s r → UpClasses family own key at r
-one_up family own key at s c r is none above rest =
-    subst (λ (t : Superclass). UpClasses family own key t r) (sym is) (up none above rest)
-
-pub found_nowhere : (family : Family) (own : ℕ → Option ℕ) (key : NameAndType) (at : Superclass) (c : ℕ)
-    (r : Option Method) → at ≡ super.Given c
-    → own c ≡ None → superclass_in family c ≡ None → r ≡ None → UpClasses family own key at r
-found_nowhere family own key at c r is none above nothing =
-    subst (λ (t : Superclass). UpClasses family own key t r) (sym is)
-    (subst (λ (o : Option Method). UpClasses family own key (super.Given c) o) (sym nothing) (beyond none above))
 
 pub built_in_member : (family : Family) (own : ℕ → Option ℕ) (key : NameAndType) (at : Superclass) (b : BuiltIn)
     (m : BuiltInMethod)

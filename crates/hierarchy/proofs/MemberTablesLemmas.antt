@@ -78,8 +78,8 @@ no_pools texts pools distinct first none = record {
 
 -- ---- what members are called
 
-beside : {A B : Type 0} (xs : List A) (ys : List B) (i : ℕ) (x : A) → length xs ≡ length ys → slice_get xs i ≡ Some x
-    → (y : B) × (slice_get ys i ≡ Some y)
+pub beside : {A B : Type 0} (xs : List A) (ys : List B) (i : ℕ) (x : A) → length xs ≡ length ys
+    → slice_get xs i ≡ Some x → (y : B) × (slice_get ys i ≡ Some y)
 beside [] ys i x count at = absurd cc
 beside (z ∷ xs) [] i x count at = absurd (omega (arith, count))
 beside (z ∷ xs) (y ∷ ys) zero x count at = (y, refl)

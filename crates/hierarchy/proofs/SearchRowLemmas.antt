@@ -43,9 +43,6 @@ pub rows_whole : (P : ℕ → List ℕ → Type 0) (family : Family) (order : Li
 rows_whole P family order rows k whole first before c small =
     before c (rw (take_all k order whole) (first.whole c small))
 
-none_before : (d : ℕ) → Contains [] d → ⊥
-none_before d (k, small, e) = omega arith
-
 -- ---- a table that is filled in this order: so many classes have their lists
 
 abbrev pub Filled : (ℕ → List ℕ → Type 0) → Family → ℕ → List ℕ → ℕ → List (List ℕ) → Type 0

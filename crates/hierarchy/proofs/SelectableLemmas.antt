@@ -216,7 +216,7 @@ placed test i (x ∷ xs) k e = by (test x) refl e (placed test (i + 1) xs k)
         let rest = later found in
         (suc rest.0, omega (arith, rest.1), rest.2, rest.3, rest.4)
 
-kept_same : (test : ℕ → Bool) (flags : ℕ → ℕ) (o : Option ℕ) (k : ℕ) → keep_if test flags o ≡ Some k → o ≡ Some k
+pub kept_same : (test : ℕ → Bool) (flags : ℕ → ℕ) (o : Option ℕ) (k : ℕ) → keep_if test flags o ≡ Some k → o ≡ Some k
 kept_same test flags None k e = e
 kept_same test flags (Some j) k e = by (test (flags j)) e
   where
@@ -293,7 +293,7 @@ selects_given family c j name other is e =
     (found_if is_inherited family (class.Given e) (key_in family c j)))
     other ∙ ap (found_if is_inherited family (class.Given e)) is
 
-selects_itself : (family : Family) (c j : ℕ) → is_private (flags_in family c j) ≡ true → (e : ℕ)
+pub selects_itself : (family : Family) (c j : ℕ) → is_private (flags_in family c j) ≡ true → (e : ℕ)
     → selected family (class.Given e) (method.Given c j) ≡ Some (method.Given c j)
 unfolding selected
 selects_itself family c j private e =
@@ -309,7 +309,7 @@ selects_nothing family c j other none e =
     (found_if is_inherited family (class.Given e) (key_in family c j)))
     other ∙ ap (found_if is_inherited family (class.Given e)) none
 
-private_within : (family : Family) (c j : ℕ) → is_private (flags_in family c j) ≡ true → c < length family
+pub private_within : (family : Family) (c j : ℕ) → is_private (flags_in family c j) ≡ true → c < length family
 private_within family c j private = by (slice_get family c) refl private
   where
     by : (o : Option GivenClass) → slice_get family c ≡ o → is_private (flags_of (file_of o) j) ≡ true

@@ -57,7 +57,7 @@ impl Model for Ancestors {
 }
 
 impl Ancestors {
-    /// Those of no class yet. Room is taken when the first are looked for: most programs never do.
+    /// The ancestors of no class yet. Room is taken when the first are looked for: most programs never do.
     ///
     /// # Errors
     /// Where memory runs out.
@@ -145,7 +145,7 @@ fn place_in(places: &[u32], class: u32) -> u32
     places.get(class as usize).copied().unwrap_or(0)
 }
 
-/// Makes room for so many classes, if there is less.
+/// Makes room for `count` classes, if there is less.
 fn make_room(
     alloc: Global,
     count: usize,

@@ -43,7 +43,7 @@ impl Hierarchy {
         }
     }
 
-    /// The same of an interface.
+    /// The superinterface method that a reference to a method of an interface resolves to, by its answer.
     fn answered_in_interface(
         &self,
         key: Option<MemberKey>,
@@ -61,7 +61,7 @@ impl Hierarchy {
         self.answered_among_interfaces(key, answer)
     }
 
-    /// The same of a class that is no interface.
+    /// The superinterface method that a reference to a method of a class, no interface, resolves to, by its answer.
     fn answered_in_class(
         &self,
         sought: Sought<'_>,

@@ -17,10 +17,10 @@ ghost use Rattle.hierarchy.specs.steps.Defaults.{AreFound};
 ghost use Rattle.hierarchy.specs.steps.HierarchyTables.{wanted_in};
 ghost use Rattle.hierarchy.specs.steps.MemberKeys.{AreNumbers};
 
-use crate::asked::Asked;
+use crate::asked::AskedReference;
 use crate::bits::{BITS, Known, first_bit, has_bit, without};
 use crate::declarations::Declaration;
-use crate::defaults::Found;
+use crate::defaults::FoundMethods;
 use crate::hierarchy::Hierarchy;
 use crate::masks::Mask;
 use crate::member::DeclaredMember;
@@ -39,12 +39,12 @@ pub(crate) struct Answer {
     /// Whether it finds none.
     pub(crate) none: bool,
     /// The defaults among superinterface methods.
-    pub(crate) defaults: Found,
+    pub(crate) defaults: FoundMethods,
 }
 
 impl Answer {
     /// Nothing is known of a reference.
-    pub(crate) fn unknown(asked: &Asked) -> Answer
+    pub(crate) fn unknown(asked: &AskedReference) -> Answer
         ensures key { result.key ≡ asked.now.key }
         ensures unknown { (h : Numbered) (w : Kind) (declared : List Declared) → asked.now.class < length h.family
             → IsWhole h w declared asked.now.key → IsAnswer h w declared 0 result }
@@ -55,7 +55,7 @@ impl Answer {
             member: asked.member,
             first: None,
             none: false,
-            defaults: Found::Nothing,
+            defaults: FoundMethods::Nothing,
         }
     }
 
@@ -98,7 +98,7 @@ pub(crate) fn look(
     }
 }
 
-/// The same of one reference.
+/// What is known of one reference when one more window of declarations is looked at.
 fn look_at(
     hierarchy: &Hierarchy,
     wanted: Wanted,
@@ -154,7 +154,12 @@ fn first_of(declared: &[Declaration], start: usize, word: u64) -> Option<Declare
 }
 
 /// What was found, with the declarations of some bits.
-fn with_defaults(found: Found, declared: &[Declaration], start: usize, word: u64) -> Found
+fn with_defaults(
+    found: FoundMethods,
+    declared: &[Declaration],
+    start: usize,
+    word: u64,
+) -> FoundMethods
     requires { start ≤ length declared.now }
     ensures { (family : Classes) (name : NameAndType) (c : ℕ) (key : Key)
         → AreBitsOf (IsDefault family name c) declared.now start key word
@@ -170,8 +175,13 @@ fn with_defaults(found: Found, declared: &[Declaration], start: usize, word: u64
     with_all_defaults(found, declared, start, word)
 }
 
-/// The same, one bit after another.
-fn with_all_defaults(found: Found, declared: &[Declaration], start: usize, word: u64) -> Found
+/// What was found, with the declarations of some bits, one bit after another.
+fn with_all_defaults(
+    found: FoundMethods,
+    declared: &[Declaration],
+    start: usize,
+    word: u64,
+) -> FoundMethods
     requires { start ≤ length declared.now }
     ensures { (family : Classes) (name : NameAndType) (c : ℕ) (key : Key)
         → AreBitsOf (IsDefault family name c) declared.now start key word

@@ -31,7 +31,7 @@ impl MemberKind {
         }
     }
 
-    /// The same of interfaces alone.
+    /// What is looked for in interfaces: a field or a method.
     fn of_interfaces(self) -> Wanted {
         match self {
             MemberKind::Field => Wanted::InterfaceField,
@@ -62,21 +62,21 @@ impl MemberKind {
 
 /// A reference to a member of a given class.
 #[derive(Clone, Copy)]
-pub(crate) struct Asked {
+pub(crate) struct AskedReference {
     pub(crate) key: MemberKey,
     pub(crate) class: u32,
     pub(crate) member: MemberName,
 }
 
 /// By name and descriptor, then by class.
-fn by_key(a: &Asked, b: &Asked) -> Ordering {
+fn by_key(a: &AskedReference, b: &AskedReference) -> Ordering {
     (a.key.name, a.key.descriptor, a.class).cmp(&(b.key.name, b.key.descriptor, b.class))
 }
 
 impl Hierarchy {
     /// How many references, from the first on, have together no more declarations than are looked at in one way; or
     /// those of one name and descriptor.
-    pub(crate) fn batch_length(&self, wanted: Wanted, asked: &[Asked]) -> usize
+    pub(crate) fn batch_length(&self, wanted: Wanted, asked: &[AskedReference]) -> usize
         ensures few { result ≤ length asked.now }
         ensures some { 0 < length asked.now → 0 < result }
     {
@@ -97,7 +97,11 @@ impl Hierarchy {
 
     /// The references of a kind to members of given classes that an interface may declare, those of one name and
     /// descriptor together.
-    pub(crate) fn asked(&self, alloc: Global, kind: MemberKind) -> Result<Vec<Asked>, AllocError> {
+    pub(crate) fn asked(
+        &self,
+        alloc: Global,
+        kind: MemberKind,
+    ) -> Result<Vec<AskedReference>, AllocError> {
         let mut asked = Vec::new(alloc);
         for (class, given) in self.family().classes().iter().enumerate() {
             self.add_asked(kind, class as u32, &given.file, &mut asked)?;
@@ -112,7 +116,7 @@ impl Hierarchy {
         kind: MemberKind,
         class: u32,
         file: &ClassFile,
-        asked: &mut Vec<Asked>,
+        asked: &mut Vec<AskedReference>,
     ) -> Result<(), AllocError> {
         for constant in file.constants() {
             if let Some((named, name_and_type)) = kind.indices(constant) {
@@ -132,7 +136,7 @@ impl Hierarchy {
         file: &ClassFile,
         named: u16,
         name_and_type: u16,
-    ) -> Option<Asked> {
+    ) -> Option<AskedReference> {
         let Some(Constant::NameAndType { name, descriptor }) = file.constant(name_and_type) else {
             return None;
         };
@@ -146,6 +150,6 @@ impl Hierarchy {
             return None;
         }
         let class = self.family().number_of(class_name_at(file, named))?;
-        Some(Asked { key, class, member })
+        Some(AskedReference { key, class, member })
     }
 }

@@ -4,7 +4,7 @@ ghost use Rattle.std.specs.Prelude.{◌≡◌, ◌<◌, ◌↔◌, ◌⊎◌, �
 ghost use Rattle.loading.specs.Families.{Family as Classes, parents_in};
 ghost use Rattle.hierarchy.specs.steps.DeclarationBits.{Has, IsOwn, Knows};
 
-/// So many declarations are looked at in one way through all classes.
+/// How many declarations are looked at in one way through all classes.
 pub(crate) const BITS: usize = 64;
 
 /// Whether a bit is set.
@@ -46,7 +46,7 @@ pub(crate) fn first_bit(word: u64) -> Option<usize>
 pub(crate) struct Own {
     /// The declarations of this class.
     pub(crate) here: u64,
-    /// Those whose name and descriptor this class declares.
+    /// The declarations whose name and descriptor this class declares.
     pub(crate) same: u64,
 }
 
@@ -55,11 +55,11 @@ pub(crate) struct Own {
 pub(crate) struct Known {
     /// The first that a search finds.
     pub(crate) first: u64,
-    /// Those whose name and descriptor one of the classes declares.
+    /// The declarations whose name and descriptor one of the classes declares.
     pub(crate) covered: u64,
-    /// Those of one of the classes.
+    /// The declarations of one of the classes.
     pub(crate) present: u64,
-    /// Those above another one of their name and descriptor.
+    /// The declarations above another one of their name and descriptor.
     pub(crate) hidden: u64,
 }
 
@@ -76,7 +76,7 @@ impl Known {
         }
     }
 
-    /// The same with what stands behind these classes.
+    /// What is known of these classes and then of others.
     pub(crate) fn before(self, other: Known) -> Known
         ensures { (family : Classes) (declares : ℕ → Option ℕ) (xs : List ℕ) (y d k n : ℕ) → n < 64
             → Knows family declares xs d k n self → Knows family declares (y ∷ []) d k n other
@@ -90,7 +90,7 @@ impl Known {
         }
     }
 
-    /// The same from a class on, after that of its parents.
+    /// What is known from a class on: by its own declarations and what is known of its parents.
     pub(crate) fn below(self, own: Own) -> Known
         ensures { (family : Classes) (declares : ℕ → Option ℕ) (c d k n : ℕ) → n < 64 → declares d ≡ Some k
             → IsOwn declares c d n own → Knows family declares (parents_in family c) d k n self

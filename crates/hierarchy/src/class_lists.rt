@@ -38,7 +38,7 @@ impl ClassLists {
     }
 }
 
-/// An empty list for each of so many classes.
+/// An empty list for each of `count` classes.
 pub(crate) fn empty_lists(alloc: Global, count: usize) -> Result<Vec<ClassNumbers>, AllocError>
     ensures { IfOk result (λ lists. lists.items ≡ replicate count []) }
 {
@@ -47,7 +47,7 @@ pub(crate) fn empty_lists(alloc: Global, count: usize) -> Result<Vec<ClassNumber
     Ok(lists)
 }
 
-/// Adds an empty list for each of so many classes.
+/// Adds an empty list for each of `count` classes.
 fn add_empty_lists(
     alloc: Global,
     count: usize,

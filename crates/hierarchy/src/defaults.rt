@@ -3,7 +3,7 @@
 
 ghost use Rattle.std.specs.Prelude.{◌≡◌, ◌↔◌, ◌<◌, ◌++◌, ℕ, List, length, IsTrue, MatchOption};
 ghost use Rattle.std.specs.List.{Contains};
-ghost use Rattle.hierarchy.specs.declared.defaults.Found.TheVariants as found;
+ghost use Rattle.hierarchy.specs.declared.defaults.FoundMethods.TheVariants as found;
 ghost use Rattle.hierarchy.specs.steps.Defaults.{AreFound, found_after, only_of, HasMethod, IsFree, AreCovered};
 ghost use Rattle.hierarchy.specs.steps.Defaults.{AreParentsOf, classes_of, Among};
 ghost use Rattle.hierarchy.specs.steps.Reaches.{class_noted};
@@ -23,22 +23,22 @@ use classfile::flags::{ABSTRACT, has_flag};
 
 /// The methods of some kind that were found so far, each in a class of its own.
 #[derive(Clone, Copy)]
-pub(crate) enum Found {
+pub(crate) enum FoundMethods {
     Nothing,
     One { class: u32, index: u16 },
     Several,
 }
 
-impl Found {
-    /// The same with one more class, and the place of such a method there if it has one.
-    pub(crate) fn and(self, class: u32, index: Option<u16>) -> Found
+impl FoundMethods {
+    /// What was found with one more class, and the place of such a method there if it has one.
+    pub(crate) fn and(self, class: u32, index: Option<u16>) -> FoundMethods
         ensures { result ≡ found_after self class index }
     {
         match index {
             Some(index) => match self {
-                Found::Nothing => Found::One { class, index },
-                Found::One { class: other, .. } if other == class => self,
-                Found::One { .. } | Found::Several => Found::Several,
+                FoundMethods::Nothing => FoundMethods::One { class, index },
+                FoundMethods::One { class: other, .. } if other == class => self,
+                FoundMethods::One { .. } | FoundMethods::Several => FoundMethods::Several,
             },
             None => self,
         }
@@ -49,8 +49,8 @@ impl Found {
         ensures { IsTrue result → self ≡ found.Several }
     {
         match self {
-            Found::Nothing | Found::One { .. } => false,
-            Found::Several => true,
+            FoundMethods::Nothing | FoundMethods::One { .. } => false,
+            FoundMethods::Several => true,
         }
     }
 
@@ -59,8 +59,8 @@ impl Found {
         ensures { result ≡ only_of self }
     {
         match self {
-            Found::One { class, index } => Some(DeclaredMember { class, index }),
-            Found::Nothing | Found::Several => None,
+            FoundMethods::One { class, index } => Some(DeclaredMember { class, index }),
+            FoundMethods::Nothing | FoundMethods::Several => None,
         }
     }
 }
@@ -117,8 +117,8 @@ impl Hierarchy {
     {
         let _classes = self.family().classes();
         match self.candidates(above, key) {
-            Found::Nothing => None,
-            Found::One {
+            FoundMethods::Nothing => None,
+            FoundMethods::One {
                 class: interface,
                 index,
             } => {
@@ -130,7 +130,7 @@ impl Hierarchy {
                     index,
                 })
             }
-            Found::Several => {
+            FoundMethods::Several => {
                 let covered = self.above_candidates(above, key);
                 self.defaults(above, &covered, key).only()
             }
@@ -138,11 +138,11 @@ impl Hierarchy {
     }
 
     /// The ancestors that have the method.
-    fn candidates(&self, above: Above<'_>, key: Option<MemberKey>) -> Found
+    fn candidates(&self, above: Above<'_>, key: Option<MemberKey>) -> FoundMethods
         ensures { (name : NameAndType) → IsLookup self.now.texts name key
             → AreFound (HasMethod self.now.family name) (classes_of above.entry) result }
     {
-        let mut found = Found::Nothing;
+        let mut found = FoundMethods::Nothing;
         let row = self.noted(Wanted::InterfaceMethod, key);
         for reach in row {
             found = self.with_candidate(above, key, found, reach);
@@ -155,9 +155,9 @@ impl Hierarchy {
         &self,
         above: Above<'_>,
         key: Option<MemberKey>,
-        found: Found,
+        found: FoundMethods,
         reach: &Reach,
-    ) -> Found
+    ) -> FoundMethods
         ensures { (name : NameAndType) (asked : List ℕ) → IsLookup self.now.texts name key
             → AreFound (Among (HasMethod self.now.family name) (classes_of above.entry)) asked found
             → AreFound (Among (HasMethod self.now.family name) (classes_of above.entry))
@@ -229,11 +229,11 @@ impl Hierarchy {
     }
 
     /// The defaults among the ancestors: those that are not covered.
-    fn defaults(&self, above: Above<'_>, covered: &ClassSet, key: Option<MemberKey>) -> Found
+    fn defaults(&self, above: Above<'_>, covered: &ClassSet, key: Option<MemberKey>) -> FoundMethods
         ensures { (name : NameAndType) → IsLookup self.now.texts name key
             → AreFound (IsFree self.now.family name covered.now) (classes_of above.entry) result }
     {
-        let mut found = Found::Nothing;
+        let mut found = FoundMethods::Nothing;
         let row = self.noted(Wanted::InterfaceMethod, key);
         for reach in row {
             found = self.with_default(above, covered, key, found, reach);
@@ -247,9 +247,9 @@ impl Hierarchy {
         above: Above<'_>,
         covered: &ClassSet,
         key: Option<MemberKey>,
-        found: Found,
+        found: FoundMethods,
         reach: &Reach,
-    ) -> Found
+    ) -> FoundMethods
         ensures { (name : NameAndType) (asked : List ℕ) → IsLookup self.now.texts name key
             → AreFound (Among (IsFree self.now.family name covered.now) (classes_of above.entry)) asked found
             → AreFound (Among (IsFree self.now.family name covered.now) (classes_of above.entry))

@@ -11,23 +11,23 @@ use loading::family::Family;
 use loading::given::Superclass;
 use std::alloc::{AllocError, Global};
 
-/// Classes in a row: which is the first, and by class which stands behind it.
-struct Row {
+/// Classes in an order: which is the first, and by class which stands behind it.
+struct LinkedOrder {
     first: Option<u32>,
     behind: Vec<Option<u32>>,
 }
 
 // By hand, since a derived one is proved anew wherever one is let go.
-impl Drop for Row {
+impl Drop for LinkedOrder {
     fn drop(self) {
-        let Row {
+        let LinkedOrder {
             first: _,
             behind: _,
         } = self;
     }
 }
 
-impl Row {
+impl LinkedOrder {
     /// The class behind a class, or none behind the last, if there is a class of this number.
     fn after(&self, class: u32) -> Option<Option<u32>>
         ensures { result ≡ slice_get self.now.behind.items class }
@@ -72,7 +72,12 @@ pub(crate) fn given_superclass(family: &Family, class: u32) -> Option<u32>
 }
 
 /// Puts a class behind its superclass, or first if that is not given, unless it is there.
-fn put(family: &Family, class: u32, placed: &mut Visited, row: &mut Row) -> Result<(), AllocError>
+fn put(
+    family: &Family,
+    class: u32,
+    placed: &mut Visited,
+    row: &mut LinkedOrder,
+) -> Result<(), AllocError>
     requires class { class < length family.now }
     requires limit { placed.old.limit ≡ length family.now }
     requires len { length row.old.behind.items ≡ length family.now }
@@ -91,7 +96,7 @@ fn put(family: &Family, class: u32, placed: &mut Visited, row: &mut Row) -> Resu
 }
 
 /// Puts a class behind its superclass, or first if that is not given.
-fn link(family: &Family, class: u32, row: &mut Row)
+fn link(family: &Family, class: u32, row: &mut LinkedOrder)
     requires class { class < length family.now }
     requires len { length row.old.behind.items ≡ length family.now }
     ensures len { length row.new.behind.items ≡ length row.old.behind.items }
@@ -107,7 +112,7 @@ fn link(family: &Family, class: u32, row: &mut Row)
 }
 
 /// Puts each class of a family into a row.
-fn put_all(family: &Family, placed: &mut Visited, row: &mut Row) -> Result<(), AllocError>
+fn put_all(family: &Family, placed: &mut Visited, row: &mut LinkedOrder) -> Result<(), AllocError>
     requires limit { placed.old.limit ≡ length family.now }
     requires len { length row.old.behind.items ≡ length family.now }
     requires holds { Holds family.now placed.old.items row.old.first row.old.behind.items }
@@ -125,7 +130,7 @@ fn put_all(family: &Family, placed: &mut Visited, row: &mut Row) -> Result<(), A
 }
 
 /// The classes of a row.
-fn classes_of(alloc: Global, row: &Row) -> Result<Vec<u32>, AllocError>
+fn classes_of(alloc: Global, row: &LinkedOrder) -> Result<Vec<u32>, AllocError>
     ensures { IfOk result (λ classes. (cs : List ℕ) → IsRow row.now.behind.items row.now.first cs
         → length cs ≤ length row.now.behind.items → classes.items ≡ cs) }
 {
@@ -135,7 +140,7 @@ fn classes_of(alloc: Global, row: &Row) -> Result<Vec<u32>, AllocError>
 }
 
 /// Adds the classes of a row.
-fn add_classes(row: &Row, classes: &mut Vec<u32>) -> Result<(), AllocError>
+fn add_classes(row: &LinkedOrder, classes: &mut Vec<u32>) -> Result<(), AllocError>
     requires { classes.old.items ≡ [] }
     ensures { OnOk result ((cs : List ℕ) → IsRow row.now.behind.items row.now.first cs
         → length cs ≤ length row.now.behind.items → classes.new.items ≡ cs) }
@@ -148,7 +153,11 @@ fn add_classes(row: &Row, classes: &mut Vec<u32>) -> Result<(), AllocError>
 }
 
 /// Adds a class of a row, if there is one, and answers the one behind it.
-fn add_class(row: &Row, at: Option<u32>, classes: &mut Vec<u32>) -> Result<Option<u32>, AllocError>
+fn add_class(
+    row: &LinkedOrder,
+    at: Option<u32>,
+    classes: &mut Vec<u32>,
+) -> Result<Option<u32>, AllocError>
     ensures { IfOk result (λ after. (cs : List ℕ) → IsRow row.now.behind.items at cs
         → (rest : List ℕ) × IsRow row.now.behind.items after rest
         × (classes.new.items ++ rest ≡ classes.old.items ++ cs)
@@ -171,7 +180,7 @@ pub(crate) fn depth_first(alloc: Global, family: &Family) -> Result<Vec<u32>, Al
     ensures { IfOk result (λ order. IsWholeOrder family.now order.items) }
 {
     let count = family.classes().len();
-    let mut row = Row {
+    let mut row = LinkedOrder {
         first: None,
         behind: vec![in alloc; None; count]?,
     };

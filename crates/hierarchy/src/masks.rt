@@ -12,12 +12,12 @@ use crate::member_key::MemberKey;
 pub(crate) struct Mask {
     pub(crate) key: MemberKey,
     pub(crate) same: u64,
-    /// Those of superinterface methods with code.
+    /// The bits of superinterface methods with code.
     pub(crate) coded: u64,
 }
 
 impl Mask {
-    /// Those in the window that begins at a place.
+    /// The mask of a name and descriptor in the window that begins at a place.
     pub(crate) fn of_key(declared: &[Declaration], start: usize, key: MemberKey) -> Mask
         requires { start ≤ length declared.now }
         ensures key { result.key ≡ key }
@@ -36,7 +36,7 @@ impl Mask {
         mask
     }
 
-    /// The same of another name and descriptor, which is mostly the same one.
+    /// The mask of another name and descriptor, which is mostly the same one.
     pub(crate) fn changed_to(self, declared: &[Declaration], start: usize, key: MemberKey) -> Mask
         requires start { start ≤ length declared.now }
         requires mask { IsMask declared.now start self }
@@ -50,7 +50,7 @@ impl Mask {
         }
     }
 
-    /// The same with one more declaration.
+    /// The mask with one more declaration.
     fn and(self, bit: usize, declaration: Declaration) -> Mask
         requires { bit < 64 }
         ensures key { result.key ≡ self.key }

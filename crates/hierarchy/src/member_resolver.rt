@@ -53,7 +53,7 @@ impl<'a> Model for MemberResolver<'a> {
 }
 
 impl<'a> MemberResolver<'a> {
-    /// That of a hierarchy, with room for what stands above one class.
+    /// The resolver of a hierarchy, with room for what stands above one class.
     ///
     /// # Errors
     /// Where memory runs out.

@@ -53,7 +53,7 @@ pub(crate) struct Reaches {
     methods: ReachTable,
     /// Of the methods that are neither private nor static.
     instance_methods: ReachTable,
-    /// The same of interfaces.
+    /// Of such methods of interfaces.
     interface_methods: ReachTable,
 }
 
@@ -71,7 +71,7 @@ impl Drop for Reaches {
 }
 
 impl NearestMembers {
-    /// Those of a family.
+    /// The nearest members of a family.
     pub(crate) fn of_family(
         alloc: Global,
         family: &Family,
@@ -100,7 +100,7 @@ impl NearestMembers {
 }
 
 impl Reaches {
-    /// Those of classes in an order.
+    /// The reaches of classes in an order.
     fn along(alloc: Global, classes: &ClassOrder) -> Result<Self, AllocError>
         requires { IsClassOrder classes.now }
         ensures { IfOk result (AllAreTold classes.now.family.now classes.now.table.now classes.now.order.now) }

@@ -10,7 +10,7 @@ use std::alloc::{AllocError, Global};
 
 /// A class, and where its parents stand: from one place up to another.
 #[derive(Clone, Copy)]
-pub(crate) struct Step {
+pub(crate) struct ClassWithParents {
     pub(crate) class: u32,
     pub(crate) from: usize,
     pub(crate) to: usize,
@@ -19,7 +19,7 @@ pub(crate) struct Step {
 /// The classes of a family, each after its parents. The parents of all stand in one list, so that a look at those of a
 /// class takes no way through its class file.
 pub(crate) struct ParentsFirst {
-    pub(crate) steps: Vec<Step>,
+    pub(crate) steps: Vec<ClassWithParents>,
     pub(crate) parents: Vec<u32>,
 }
 
@@ -34,7 +34,7 @@ impl Drop for ParentsFirst {
 }
 
 impl ParentsFirst {
-    /// Those of a family.
+    /// The classes of a family, parents first.
     pub(crate) fn of_family(alloc: Global, family: &Family) -> Result<Self, AllocError>
         ensures { IfOk result (λ order. AreSteps family.now order.steps.items order.parents.items) }
     {
@@ -62,12 +62,12 @@ impl ParentsFirst {
             self.parents.push(above)?;
         }
         let to = self.parents.len();
-        self.steps.push(Step { class, from, to })?;
+        self.steps.push(ClassWithParents { class, from, to })?;
         Ok(())
     }
 
     /// The parents of a class.
-    pub(crate) fn parents_of(&self, step: Step) -> &[u32]
+    pub(crate) fn parents_of(&self, step: ClassWithParents) -> &[u32]
         requires up { step.from ≤ step.to }
         requires within { step.to ≤ length self.now.parents.items }
         ensures { result.now ≡ between step.from step.to self.now.parents.items }

@@ -119,7 +119,7 @@ impl ReachTable {
     }
 }
 
-/// What is the nearest from the last of so many reaches on.
+/// What is the nearest from the last of the first `count` reaches on.
 fn last_of(row: &[Reach], count: usize) -> Option<DeclaredMember>
     ensures { result ≡ last_nearest row.now count }
 {

@@ -16,7 +16,7 @@ ghost use Rattle.hierarchy.specs.steps.Groups.{AreWays, IsGroup};
 ghost use Rattle.hierarchy.specs.steps.ParentSteps.{AreSteps};
 
 use crate::answers::{Answer, look};
-use crate::asked::{Asked, MemberKind};
+use crate::asked::{AskedReference, MemberKind};
 use crate::bits::{BITS, Known, Own};
 use crate::declarations::Declaration;
 use crate::found_ahead::FoundAhead;
@@ -50,15 +50,15 @@ impl Drop for Ways {
 }
 
 /// References whose names and descriptors are looked at together.
-struct Group {
+struct ReferenceGroup {
     declared: Vec<Declaration>,
     answers: Vec<Answer>,
 }
 
 // By hand, since a derived one is proved anew wherever one is let go.
-impl Drop for Group {
+impl Drop for ReferenceGroup {
     fn drop(self) {
-        let Group {
+        let ReferenceGroup {
             declared: _,
             answers: _,
         } = self;
@@ -66,7 +66,7 @@ impl Drop for Group {
 }
 
 impl Ways {
-    /// Those through the classes of a hierarchy.
+    /// The ways through the classes of a hierarchy.
     fn of_hierarchy(alloc: Global, hierarchy: &Hierarchy) -> Result<Self, AllocError>
         ensures order { IfOk result
             (λ w. AreSteps hierarchy.now.family w.order.steps.items w.order.parents.items) }
@@ -88,7 +88,7 @@ impl Ways {
 
     /// Whether walks for some references, and a look at each class that declares a member, would take longer than ways
     /// through all classes. A step of a walk takes some ten times as long as one of a way.
-    fn are_shorter(&self, hierarchy: &Hierarchy, wanted: Wanted, group: &Group) -> bool {
+    fn are_shorter(&self, hierarchy: &Hierarchy, wanted: Wanted, group: &ReferenceGroup) -> bool {
         let steps = self.order.steps.len();
         let way = steps.saturating_add(self.order.parents.len());
         let way = way.saturating_add(group.declared.len());
@@ -124,13 +124,13 @@ fn walk_lengths(
     Ok(lengths)
 }
 
-impl Group {
+impl ReferenceGroup {
     /// Adds a reference that is another one than the last, with the declarations of its name and descriptor.
     fn add(
         &mut self,
         hierarchy: &Hierarchy,
         wanted: Wanted,
-        asked: &Asked,
+        asked: &AskedReference,
     ) -> Result<(), AllocError>
         requires { IsGroup hierarchy.now wanted self.old }
         ensures { OnOk result (IsGroup hierarchy.now wanted self.new) }
@@ -145,7 +145,7 @@ impl Group {
     }
 
     /// Whether a reference is the last one.
-    fn ends_with(&self, asked: &Asked) -> bool {
+    fn ends_with(&self, asked: &AskedReference) -> bool {
         match self.answers.last() {
             Some(last) => last.class == asked.class && last.key.is(asked.key),
             None => false,
@@ -201,7 +201,7 @@ impl Hierarchy {
         &self,
         alloc: Global,
         kind: MemberKind,
-        asked: &[Asked],
+        asked: &[AskedReference],
     ) -> Result<FoundAhead, AllocError>
         ensures { IfOk result (AreAhead kind self.now) }
     {
@@ -217,7 +217,7 @@ impl Hierarchy {
         &self,
         alloc: Global,
         kind: MemberKind,
-        asked: &[Asked],
+        asked: &[AskedReference],
         found: &mut FoundAhead,
     ) -> Result<(), AllocError>
         requires { AreAhead kind self.now found.old }
@@ -232,12 +232,12 @@ impl Hierarchy {
         }
     }
 
-    /// The same, one batch after another.
+    /// Adds what these resolve to, one batch after another.
     fn add_batches(
         &self,
         alloc: Global,
         kind: MemberKind,
-        asked: &[Asked],
+        asked: &[AskedReference],
         ways: &mut Ways,
         found: &mut FoundAhead,
     ) -> Result<(), AllocError>
@@ -256,10 +256,15 @@ impl Hierarchy {
     }
 
     /// Some references with all declarations of their names and descriptors.
-    fn group(&self, alloc: Global, wanted: Wanted, batch: &[Asked]) -> Result<Group, AllocError>
+    fn group(
+        &self,
+        alloc: Global,
+        wanted: Wanted,
+        batch: &[AskedReference],
+    ) -> Result<ReferenceGroup, AllocError>
         ensures { IfOk result (IsGroup self.now wanted) }
     {
-        let mut group = Group {
+        let mut group = ReferenceGroup {
             declared: Vec::new(alloc),
             answers: Vec::new(alloc),
         };
@@ -274,7 +279,7 @@ impl Hierarchy {
         &self,
         alloc: Global,
         kind: MemberKind,
-        batch: &[Asked],
+        batch: &[AskedReference],
         ways: &mut Ways,
         found: &mut FoundAhead,
     ) -> Result<(), AllocError>
@@ -294,7 +299,7 @@ impl Hierarchy {
         &self,
         kind: MemberKind,
         ways: &mut Ways,
-        group: &mut Group,
+        group: &mut ReferenceGroup,
         found: &mut FoundAhead,
     ) -> Result<(), AllocError>
         requires ways { AreWays self.now.family ways.old }
@@ -346,13 +351,13 @@ impl Hierarchy {
     }
 
     /// Finds what the references of a group resolve to.
-    fn look_through(&self, wanted: Wanted, ways: &mut Ways, group: &mut Group)
+    fn look_through(&self, wanted: Wanted, ways: &mut Ways, group: &mut ReferenceGroup)
         requires ways { AreWays self.now.family ways.old }
         requires group { IsGroup self.now wanted group.old }
         ensures ways { AreWays self.now.family ways.new }
         ensures resolved { AreResolved self.now wanted group.new.answers.items }
     {
-        let Group { declared, answers } = group;
+        let ReferenceGroup { declared, answers } = group;
         let Ways {
             order,
             own,
@@ -362,7 +367,7 @@ impl Hierarchy {
         self.look_at_all(wanted, order, declared, own, rows, answers);
     }
 
-    /// The same, one window of declarations after another.
+    /// Finds what the references of a group resolve to, one window of declarations after another.
     fn look_at_all(
         &self,
         wanted: Wanted,

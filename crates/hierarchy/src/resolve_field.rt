@@ -45,7 +45,7 @@ impl Hierarchy {
         }
     }
 
-    /// The same of a given class.
+    /// The field that a given class and the name and descriptor of a reference stand for.
     fn given_field(
         &self,
         ancestors: &mut Ancestors,
@@ -65,7 +65,7 @@ impl Hierarchy {
     }
 }
 
-/// The same of a built-in class.
+/// The field that a built-in class and the name and descriptor of a reference stand for.
 fn built_in_field(class: BuiltIn, sought: Sought<'_>) -> Option<Field>
     ensures { (family : Classes) → ResolvesField family (sought_name sought.entry) (class_ids.BuiltIn class) result }
 {

@@ -40,7 +40,7 @@ impl Hierarchy {
         self.resolve_sought(ancestors, class, self.sought(member))
     }
 
-    /// The same by what is looked for.
+    /// The method that a class and what is looked for stand for.
     fn resolve_sought(
         &self,
         ancestors: &mut Ancestors,
@@ -62,7 +62,7 @@ impl Hierarchy {
         }
     }
 
-    /// The same of an interface.
+    /// The method that an interface and the name and descriptor of a reference stand for.
     fn resolve_in_interface(
         &self,
         ancestors: &mut Ancestors,
@@ -82,7 +82,7 @@ impl Hierarchy {
         Ok(method)
     }
 
-    /// The same of a class that is no interface.
+    /// The method that a class, no interface, and the name and descriptor of a reference stand for.
     fn resolve_in_class(
         &self,
         ancestors: &mut Ancestors,

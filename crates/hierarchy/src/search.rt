@@ -164,7 +164,7 @@ impl Hierarchy {
         }
     }
 
-    /// The same from a given class up.
+    /// The first method of some kind from a given class up.
     fn up_given(&self, wanted: Wanted, class: u32, sought: Sought<'_>) -> Option<Method>
         requires { IsLookup self.now.texts (sought_name sought) sought.key }
         ensures { UpClasses self.now.family (wanted_in wanted self.now.family (sought_name sought.entry))

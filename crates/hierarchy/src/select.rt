@@ -28,7 +28,7 @@ impl Hierarchy {
         self.select_resolved(class, method)
     }
 
-    /// The same, without what it is as a function.
+    /// The method that a call of a resolved method runs on an object of a class, as a relation alone.
     fn select_resolved(&self, class: ClassId, method: Method) -> Option<Method>
         ensures { Selects self.now.family class method result }
     {
@@ -59,7 +59,8 @@ impl Hierarchy {
         }
     }
 
-    /// The same of a given class: from the class up, and then the one default.
+    /// The method of a name and a descriptor for an object of a given class: from the class up, and then the one
+    /// default.
     fn select_in_class(&self, class: u32, sought: Sought<'_>) -> Option<Method>
         requires { IsLookup self.now.texts (sought_name sought) sought.key }
         ensures { SelectsByKey self.now.family (sought_name sought.entry) (class_ids.Given class) result }

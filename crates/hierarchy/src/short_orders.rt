@@ -42,7 +42,7 @@ impl ShortOrders {
     }
 }
 
-/// No list for each of so many classes.
+/// No list for each of `count` classes.
 fn no_lists(alloc: Global, count: usize) -> Result<Vec<Option<ClassNumbers>>, AllocError>
     ensures { IfOk result (λ rows. rows.items ≡ replicate count None) }
 {

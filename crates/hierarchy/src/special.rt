@@ -46,7 +46,7 @@ impl Hierarchy {
         }
     }
 
-    /// The same of a method of a given class.
+    /// Whether a method of a given class is an instance initialization method.
     fn is_given_init(&self, class: u32, index: u16) -> bool
         ensures { result ≡ is_init_name (key_in self.now.family class index) }
     {
@@ -67,7 +67,7 @@ impl Hierarchy {
         }
     }
 
-    /// The same of two given classes. A class is asked of itself for each of its private methods.
+    /// Whether one given class is a superclass of another. A class is asked of itself for each of its private methods.
     fn has_given_superclass(&self, class: u32, other: u32) -> bool
         ensures { result ≡ is_superclass self.now.family class (class_ids.Given other) }
     {
@@ -93,7 +93,7 @@ impl Hierarchy {
         }
     }
 
-    /// The same by a name and a descriptor.
+    /// The method of a name and a descriptor that invokespecial runs, where the search begins at a class.
     fn special_sought(&self, class: ClassId, sought: Sought<'_>) -> Option<Method>
         requires { IsLookup self.now.texts (sought_name sought) sought.key }
         ensures { result ≡ found_from is_instance_method self.now.family (sought_name sought.entry) class }
@@ -106,7 +106,7 @@ impl Hierarchy {
         }
     }
 
-    /// The same from a given class on.
+    /// The method of a name and a descriptor that invokespecial runs, where the search begins at a given class.
     fn special_in_class(&self, class: u32, sought: Sought<'_>) -> Option<Method>
         requires { IsLookup self.now.texts (sought_name sought) sought.key }
         ensures { result ≡ found_from is_instance_method self.now.family (sought_name sought.entry)

@@ -25,7 +25,7 @@ impl Hierarchy {
         }
     }
 
-    /// The same of a class that is no array class.
+    /// Whether a class, and no array class, is another one or below it.
     fn is_class_below(&self, class: ClassId, other: ClassId) -> bool
         ensures { result ≡ is_class_below self.now.family class other }
     {
@@ -36,7 +36,7 @@ impl Hierarchy {
         }
     }
 
-    /// The same of a given class.
+    /// Whether a given class is another one or below it.
     fn is_given_below(&self, class: u32, other: ClassId) -> bool
         ensures { result ≡ is_given_below self.now.family class other }
     {
@@ -59,8 +59,8 @@ impl Hierarchy {
         }
     }
 
-    /// The same by marks of all that stands above the class. It stands apart, as its marks take 192 KB of the stack: a
-    /// caller that has them in its own frame pays for them at each call.
+    /// Whether the second of two given classes stands above the first, by marks of all that does. It stands apart, as
+    /// its marks take 192 KB of the stack: a caller that has them in its own frame pays for them at each call.
     #[inline(never)]
     fn is_marked_above(&self, class: u32, other: u32) -> bool
         ensures { result ≡ is_above self.now.family class other }

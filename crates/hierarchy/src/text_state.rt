@@ -6,7 +6,7 @@ use loading::given::GivenClass;
 use sha2::{Digest, Sha256};
 use std::hash::{BuildHasher, FoldHasher, Hasher};
 
-/// The texts of so many constants at most are hashed by what is known to all: whoever makes them meet costs little.
+/// Up to how many constants their texts are hashed by what is known to all: whoever makes them meet costs little.
 const FEW: usize = 1_024;
 
 /// What stands behind a text, and in none.

@@ -122,7 +122,7 @@ impl Texts {
         self.texts.as_slice()
     }
 
-    /// Whether to seek so many texts more may cost much, if somebody made them meet.
+    /// Whether to seek `more` texts may cost much, if somebody made them meet.
     pub(crate) fn is_at_risk(&self, more: usize) -> bool {
         match self.left {
             Some(left) => more > left,

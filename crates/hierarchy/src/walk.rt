@@ -42,7 +42,7 @@ impl Drop for Walk {
 }
 
 impl Walk {
-    /// A walk that was nowhere, with room for so many classes.
+    /// A walk that was nowhere, with room for `count` classes.
     pub(crate) fn new(alloc: Global, count: usize) -> Result<Walk, AllocError>
         ensures entered { IfOk result (λ walk. walk.entered.limit ≡ count) }
         ensures left { IfOk result (λ walk. walk.left.limit ≡ count) }

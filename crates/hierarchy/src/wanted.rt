@@ -9,6 +9,6 @@ pub(crate) enum Wanted {
     Method,
     /// A method that is neither private nor static.
     InstanceMethod,
-    /// The same of an interface: a superinterface method as it is looked up (JVMS 5.4.3.3).
+    /// Such a method of an interface: a superinterface method as it is looked up (JVMS 5.4.3.3).
     InterfaceMethod,
 }

@@ -10,11 +10,9 @@ use Rattle.std.proofs.lemmas.List.Elements.{All-filter, filter_passes}
 use Rattle.std.proofs.lemmas.Option.{slice_get-get_or, slice_get_within, same_Some}
 use Rattle.vm_state.proofs.ListLemmas.{tested}
 use Rattle.loading.specs.Families.{Family}
-use Rattle.image_format.specs.declared.value.ImageValue.{ImageValue}
-use Rattle.image_format.specs.declared.value.ImageValue.TheVariants as values
-use Rattle.image_format.specs.declared.object.ImageObject.{ImageObject}
-use Rattle.image_format.specs.declared.object.KeptObject.{KeptObject}
-use Rattle.image_format.specs.declared.region.ImageRegion.{ImageRegion}
+use Rattle.image_format.specs.Values.{ImageValue}
+use Rattle.image_format.specs.Values as values
+use Rattle.image_format.specs.Regions.{ImageObject, ImageRegion, KeptObject}
 use Rattle.image_format.specs.declared.version.Version.TheVariants as versions
 use Rattle.image_format.specs.Objects.{region_in, statics_of, objects_of, object_with, object_of}
 use Rattle.image_format.specs.Reached.{IsReached, static, held, AreReached, kept_in, kept_from, IsDropped}
@@ -155,7 +153,7 @@ numbers_kept keeps count least (k ∷ ks) h = elim (tested (keeps k.number)) [
 ]
 
 -- all numbers are some of them
-numbers_all : (count least : ℕ) (os : List KeptObject) → least + length os ≤ count
+pub numbers_all : (count least : ℕ) (os : List KeptObject) → least + length os ≤ count
     → AreNumbered versions.One count least os → AreNumbered versions.Two count least os
 numbers_all count least [] le h = tt
 numbers_all count least (k ∷ ks) le h =

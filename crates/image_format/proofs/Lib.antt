@@ -3,4 +3,3 @@ pub mod KnownLemmas
 pub mod ReachedLemmas
 pub mod DroppedLemmas
 pub mod RowsLemmas
-pub mod ToldLemmas

@@ -1,13 +1,16 @@
 -- Texts of a class file's constants: each is short, and modified UTF-8.
-use Rattle.std.proofs.Common.{◌≡◌, ℕ, zero, suc, ◌<◌, ◌^◌, Bool, true, false, List, [], ◌∷◌, length, Option, Some, None}
+use Rattle.std.proofs.Common.{◌≡◌, ℕ, zero, suc, ◌+◌, ◌<◌, ◌≤◌, ◌^◌, ◌/◌, ◌%◌, ◌&&◌, Bool, true, false, nat_lt, List}
+use Rattle.std.proofs.Common.{[]}
+use Rattle.std.proofs.Common.{◌∷◌, length, length-append, Option, Some, None, ap, if◌then◌else◌}
 use Rattle.std.proofs.Common.{slice_get, unwrap_or, refl, sym, subst, ◌∙◌, arith}
+use Rattle.std.proofs.lemmas.List.Concat.{flat_map-cons}
 use Rattle.std.proofs.lemmas.List.Elements.{All-nil}
 use Rattle.classfile.specs.Class.{IsClassFile}
 use Rattle.classfile.specs.ClassFile.{ClassFile}
 use Rattle.classfile.specs.Constants.{is_wide}
 use Rattle.classfile.specs.Lookup.{utf8_in, utf8_of, class_name_in, class_name_of}
 use Rattle.classfile.specs.Spelling.{Fits, AreConstants}
-use Rattle.classfile.specs.Units.{IsModifiedUtf8}
+use Rattle.classfile.specs.Units.{IsModifiedUtf8, unit_text, units_text}
 use Rattle.classfile.specs.declared.constant.Constant.{Constant}
 use Rattle.classfile.specs.declared.constant.Constant.TheVariants as constants
 use Rattle.loading.specs.Names.{name_of}
@@ -50,3 +53,26 @@ module _ (f : ClassFile) (is : IsClassFile f) where
       by None = empty_fits
       by (Some (constants.Class name)) = utf8_fits name
       by (Some other) = empty_fits
+
+-- ---- a text has no more units than bytes
+
+unit_long : (u : ℕ) → 1 ≤ length (unit_text u)
+unit_long u = by (nat_lt 0 u && nat_lt u 128) (nat_lt u 2048)
+  where
+    by : (ascii wide : Bool) → 1 ≤ length (if ascii then u ∷ [] else
+        (if wide then (192 + u / 64) ∷ (128 + u % 64) ∷ [] else
+        (224 + u / 4096) ∷ (128 + u / 64 % 64) ∷ (128 + u % 64) ∷ []))
+    by true wide = omega arith
+    by false true = omega arith
+    by false false = omega arith
+
+pub units_short : (units : List ℕ) → length units ≤ length (units_text units)
+units_short [] = omega arith
+units_short (u ∷ us) =
+    omega (
+      arith,
+      ap length (flat_map-cons unit_text u us),
+      length-append (unit_text u) (units_text us),
+      unit_long u,
+      units_short us,
+    )

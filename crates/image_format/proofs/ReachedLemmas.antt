@@ -6,11 +6,9 @@ use Rattle.std.specs.List.{Contains}
 use Rattle.std.proofs.lemmas.List.Elements.{Contains-append_left, Contains-append_right}
 use Rattle.hierarchy.proofs.WalksOrderLemmas.{none_in_empty, in_front, in_rest, cons_cases}
 use Rattle.vm_state.proofs.ListLemmas.{tested}
-use Rattle.image_format.specs.declared.value.ImageValue.{ImageValue}
-use Rattle.image_format.specs.declared.value.ImageValue.TheVariants as values
-use Rattle.image_format.specs.declared.object.ImageObject.{ImageObject}
-use Rattle.image_format.specs.declared.object.KeptObject.{KeptObject}
-use Rattle.image_format.specs.declared.region.ImageRegion.{ImageRegion}
+use Rattle.image_format.specs.Values.{ImageValue}
+use Rattle.image_format.specs.Values as values
+use Rattle.image_format.specs.Regions.{ImageObject, ImageRegion, KeptObject}
 use Rattle.image_format.specs.Objects.{region_in, statics_of, objects_of, object_with, object_of}
 use Rattle.image_format.specs.Reached.{IsReached, static, held}
 use Rattle.image_format.proofs.KnownLemmas.{Known, Name, name, both_known, one_known, same_name, Some_is, some_known}

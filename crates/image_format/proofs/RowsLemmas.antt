@@ -13,8 +13,7 @@ use Rattle.vm_state.specs.Objects.{AscendsFrom, object_in}
 use Rattle.vm_state.specs.Pools.{IsRowOf}
 use Rattle.vm_state.proofs.ListLemmas.{tested}
 use Rattle.vm_state.proofs.ObjectLemmas.{none_below}
-use Rattle.image_format.specs.declared.object.ImageObject.{ImageObject}
-use Rattle.image_format.specs.declared.object.KeptObject.{KeptObject}
+use Rattle.image_format.specs.Regions.{ImageObject, KeptObject}
 use Rattle.image_format.specs.declared.version.Version.TheVariants as versions
 use Rattle.image_format.specs.Objects.{object_with}
 use Rattle.image_format.specs.Shapes.{AreNumbered}

@@ -7,10 +7,9 @@ use Rattle.loading.specs.declared.given.GivenClass.{GivenClass}
 use Rattle.loading.specs.Families.{Family, IsFamily}
 use Rattle.loading.specs.Files.{Links}
 use Rattle.program.specs.Programs.{files_of}
-use Rattle.image_format.specs.declared.value.ImageValue.{ImageValue}
-use Rattle.image_format.specs.declared.value.ImageValue.TheVariants as values
-use Rattle.image_format.specs.declared.object.KeptObject.{KeptObject}
-use Rattle.image_format.specs.declared.region.ImageRegion.{ImageRegion}
+use Rattle.image_format.specs.Values.{ImageValue}
+use Rattle.image_format.specs.Values as values
+use Rattle.image_format.specs.Regions.{ImageRegion, KeptObject}
 use Rattle.image_format.specs.declared.version.Version.{Version}
 use Rattle.image_format.specs.declared.version.Version.TheVariants as versions
 use Rattle.image_format.specs.Objects.{object_of}

@@ -1,3 +1,6 @@
+pub mod Values
+pub mod Classes
+pub mod Regions
 pub mod Elements
 pub mod Texts
 pub mod Names
@@ -6,4 +9,3 @@ pub mod Objects
 pub mod Reached
 pub mod Images
 pub mod Told
-pub mod steps

@@ -6,8 +6,8 @@ use Rattle.built_in.specs.declared.class_id.ClassId.{ClassId}
 use Rattle.built_in.specs.declared.class_id.ClassId.TheVariants as classes
 use Rattle.loading.specs.ClassIds.{element_text, object_type}
 use Rattle.loading.specs.Families.{Family, name_in}
-use Rattle.image_format.specs.declared.object.ImageClass.{ImageClass}
-use Rattle.image_format.specs.declared.object.ImageClass.TheVariants as image
+use Rattle.image_format.specs.Classes.{ImageClass}
+use Rattle.image_format.specs.Classes as image
 
 abbrev pub class_name : Family → ClassId → List ℕ
 class_name family (classes.Given c) = unwrap_or (name_in family c) []

@@ -1,9 +1,7 @@
 -- The objects of regions, by their names: a class and a number.
 use Rattle.std.specs.Prelude.{ℕ, List, [], ◌∷◌, Option, Some, None, ◌==◌, if◌then◌else◌, slice_index_or}
-use Rattle.image_format.specs.declared.value.ImageValue.{ImageValue}
-use Rattle.image_format.specs.declared.object.ImageObject.{ImageObject}
-use Rattle.image_format.specs.declared.object.KeptObject.{KeptObject}
-use Rattle.image_format.specs.declared.region.ImageRegion.{ImageRegion}
+use Rattle.image_format.specs.Values.{ImageValue}
+use Rattle.image_format.specs.Regions.{ImageObject, ImageRegion, KeptObject}
 
 abbrev pub region_in : List (Option ImageRegion) → ℕ → Option ImageRegion
 region_in regions c = slice_index_or regions c None

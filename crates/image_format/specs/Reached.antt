@@ -1,10 +1,8 @@
 -- The objects that static fields reach, and regions without the others.
 use Rattle.std.specs.Prelude.{◌≡◌, ◌↔◌, ℕ, ◌+◌, Bool, true, List, [], ◌∷◌, Option, Some, option_map}
 use Rattle.std.specs.List.{Contains, filter}
-use Rattle.image_format.specs.declared.value.ImageValue.TheVariants as values
-use Rattle.image_format.specs.declared.object.ImageObject.{ImageObject}
-use Rattle.image_format.specs.declared.object.KeptObject.{KeptObject}
-use Rattle.image_format.specs.declared.region.ImageRegion.{ImageRegion}
+use Rattle.image_format.specs.Values as values
+use Rattle.image_format.specs.Regions.{ImageObject, ImageRegion, KeptObject}
 use Rattle.image_format.specs.Objects.{region_in, statics_of, object_of}
 
 -- The least set that has each name in a static field, and each in a slot or an element of an object in it.

@@ -17,13 +17,11 @@ use Rattle.program.specs.Arrays.{IsUnknownName}
 use Rattle.program.specs.declared.runtime_constant.FieldKind.{FieldKind}
 use Rattle.program.specs.declared.runtime_constant.FieldKind.TheVariants as kinds
 use Rattle.program.specs.InstanceFields.{is_instantiable_in, slots_of, static_kinds}
-use Rattle.image_format.specs.declared.value.ImageValue.{ImageValue}
-use Rattle.image_format.specs.declared.value.ImageValue.TheVariants as values
-use Rattle.image_format.specs.declared.object.ImageClass.{ImageClass}
-use Rattle.image_format.specs.declared.object.ImageClass.TheVariants as image
-use Rattle.image_format.specs.declared.object.ImageObject.{ImageObject}
-use Rattle.image_format.specs.declared.object.KeptObject.{KeptObject}
-use Rattle.image_format.specs.declared.region.ImageRegion.{ImageRegion}
+use Rattle.image_format.specs.Values.{ImageValue}
+use Rattle.image_format.specs.Values as values
+use Rattle.image_format.specs.Classes.{ImageClass}
+use Rattle.image_format.specs.Classes as image
+use Rattle.image_format.specs.Regions.{ImageObject, ImageRegion, KeptObject}
 use Rattle.image_format.specs.declared.version.Version.{Version}
 use Rattle.image_format.specs.declared.version.Version.TheVariants as versions
 use Rattle.image_format.specs.Names.{name_of_class}

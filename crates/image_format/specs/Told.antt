@@ -13,13 +13,11 @@ use Rattle.vm_state.specs.declared.value.Value.TheVariants as machine
 use Rattle.vm_state.specs.declared.object.Object.{Object}
 use Rattle.vm_state.specs.SharedState.{Pool, Region}
 use Rattle.program.specs.Tables.{Tables, statics_in}
-use Rattle.image_format.specs.declared.value.ImageValue.{ImageValue}
-use Rattle.image_format.specs.declared.value.ImageValue.TheVariants as values
-use Rattle.image_format.specs.declared.object.ImageClass.{ImageClass}
-use Rattle.image_format.specs.declared.object.ImageClass.TheVariants as image
-use Rattle.image_format.specs.declared.object.ImageObject.{ImageObject}
-use Rattle.image_format.specs.declared.object.KeptObject.{KeptObject}
-use Rattle.image_format.specs.declared.region.ImageRegion.{ImageRegion}
+use Rattle.image_format.specs.Values.{ImageValue}
+use Rattle.image_format.specs.Values as values
+use Rattle.image_format.specs.Classes.{ImageClass}
+use Rattle.image_format.specs.Classes as image
+use Rattle.image_format.specs.Regions.{ImageObject, ImageRegion, KeptObject}
 
 -- the units of the string of a number
 abbrev pub units_in : List (List ℕ) → ℕ → List ℕ

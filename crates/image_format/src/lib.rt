@@ -3,9 +3,4 @@
 
 pub mod elements;
 pub mod names;
-pub mod numbers;
-pub mod object;
-pub mod region;
-pub mod slots;
-pub mod value;
 pub mod version;

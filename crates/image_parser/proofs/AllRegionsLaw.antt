@@ -8,9 +8,9 @@ use Rattle.std.proofs.lemmas.List.{append-nil, get_or-take, length-take}
 use Rattle.std.proofs.lemmas.Option.{slice_get_within, slice_get-get_or, same_Some}
 use Rattle.classfile.specs.Faults.{IsBytes}
 use Rattle.loading.specs.Families.{Family, IsFamily}
-use Rattle.image_format.specs.declared.value.ImageValue.{ImageValue}
-use Rattle.image_format.specs.declared.value.ImageValue.TheVariants as values
-use Rattle.image_format.specs.declared.object.KeptObject.{KeptObject}
+use Rattle.image_format.specs.Values.{ImageValue}
+use Rattle.image_format.specs.Values as values
+use Rattle.image_format.specs.Regions.{KeptObject}
 use Rattle.image_format.specs.Objects.{object_of}
 use Rattle.image_format.specs.Reached.{kept_from}
 use Rattle.image_format.specs.Images.{IsThere, NeedsAll}

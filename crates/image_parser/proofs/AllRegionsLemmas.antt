@@ -3,17 +3,13 @@ use Rattle.std.proofs.Common.{◌≡◌, ℕ, zero, suc, ◌+◌, ◌<◌, ◌�
 use Rattle.std.proofs.Common.{None, slice_get}
 use Rattle.std.proofs.Common.{refl, sym, ap, subst, ◌∙◌, arith, inl, inr}
 use Rattle.std.specs.List.{All, AllZip}
-use Rattle.std.proofs.lemmas.Bool.{cases_lt}
-use Rattle.std.proofs.lemmas.List.{append-nil, get_or_past}
+use Rattle.std.proofs.lemmas.List.{append-nil}
 use Rattle.std.proofs.lemmas.Option.{slice_get_within, slice_get-get_or, same_Some}
 use Rattle.loading.specs.Families.{Family}
-use Rattle.image_format.specs.declared.region.ImageRegion.{ImageRegion}
+use Rattle.image_format.specs.Regions.{ImageRegion}
 use Rattle.image_format.specs.Shapes.{HasShape}
-use Rattle.image_format.specs.Objects.{region_in, objects_of}
-use Rattle.image_format.specs.Reached.{AreReached, IsDropped}
 use Rattle.image_format.specs.Images.{AreRegions, NamesObjects, NeedsAll}
 use Rattle.image_format.specs.declared.version.Version.{Version}
-use Rattle.image_format.specs.declared.version.Version.TheVariants as versions
 use Rattle.image_parser.specs.declared.fault.MarksFault.{MarksFault}
 use Rattle.image_parser.specs.declared.fault.MarksFault.TheVariants as marks
 use Rattle.image_parser.specs.declared.fault.RegionsFault.TheVariants as faults
@@ -21,9 +17,7 @@ use Rattle.image_parser.specs.Inside.{among_regions}
 use Rattle.image_parser.specs.Regions.{Begins}
 use Rattle.image_parser.specs.MarkFaults.{numbers, MarkFits, AreMarks, MarksFail, IsMarksFault}
 use Rattle.image_parser.specs.Nameless.{MarkNames, IsNameless}
-use Rattle.image_parser.specs.AllRegions.{RegionsText, RegionsFail, RegionsRead}
-use Rattle.image_parser.specs.reading.Reaching.{Rise, AllRise}
-use Rattle.image_parser.proofs.PlaceLemmas.{numbered_rise}
+use Rattle.image_parser.specs.AllRegions.{RegionsText, RegionsFail}
 use Rattle.image_parser.specs.AllRegions.RegionsFail.{part, extra, name}
 
 as_many : (version : Version) (family : Family) (c n : ℕ) (regions : List (Option ImageRegion))
@@ -48,6 +42,14 @@ at_place version family c (suc n) (r ∷ rs) h (suc i) region e =
     let P : ℕ → Type 0 = λ k. HasShape version family k region in
     subst P (let k : c + 1 + i ≡ c + suc i = omega arith in k) (at_place version family (c + 1) n rs h.1 i region e)
 
+pub marks_shape : (version : Version) (family : Family) (text : List ℕ) (regions : List (Option ImageRegion))
+    → AreMarks version family regions text → (c : ℕ) (region : ImageRegion) → slice_get regions c ≡ Some (Some region)
+    → HasShape version family c region
+marks_shape version family text regions m c region at =
+    let P : ℕ → Type 0 = λ k. HasShape version family k region in
+    subst P (let k : 0 + c ≡ c = omega arith in k)
+    (at_place version family 0 (length family) regions m.0 c region at)
+
 named : (regions : List (Option ImageRegion)) → All (MarkNames regions) regions → (i : ℕ) (region : ImageRegion)
     → slice_get regions i ≡ Some (Some region) → NamesObjects regions region
 named regions all i region e =
@@ -70,53 +72,12 @@ pub whole_regions : (version : Version) (family : Family) (bytes : List ℕ) (re
 whole_regions version family bytes regions m all needed = record {
   fits = record {
     count = as_many version family 0 (length family) regions m.0;
-    shapes = λ c region e.
-        let P : ℕ → Type 0 = λ k. HasShape version family k region in
-        subst P (let k : 0 + c ≡ c = omega arith in k)
-        (at_place version family 0 (length family) regions m.0 c region e);
+    shapes = λ c region e. marks_shape version family bytes regions m c region e;
     names = λ c region e. named regions all c region e;
     needed = needed;
   };
   spelled = m.1;
 }
-
--- what is answered of regions of version 1, and of version 2
-pub read_one : (version : Version) (family : Family) (bytes : List ℕ) (regions kept : List (Option ImageRegion))
-    → version ≡ versions.One → AreMarks version family regions bytes → All (MarkNames regions) regions
-    → IsDropped regions kept → RegionsRead version family bytes kept
-read_one versions.One family bytes regions kept is m all dropped = record {
-  all = regions;
-  told = whole_regions versions.One family bytes regions m all tt;
-  shown = dropped;
-}
-read_one versions.Two family bytes regions kept is m all dropped = absurd cc
-
-pub read_two : (version : Version) (family : Family) (bytes : List ℕ) (regions : List (Option ImageRegion))
-    → version ≡ versions.Two → AreMarks version family regions bytes → All (MarkNames regions) regions
-    → ((c : ℕ) → AreReached regions c) → RegionsRead version family bytes regions
-read_two versions.One family bytes regions is m all needed = absurd cc
-read_two versions.Two family bytes regions is m all needed = record {
-  all = regions;
-  told = whole_regions versions.Two family bytes regions m all needed;
-  shown = refl;
-}
-
--- numbers of objects rise
-pub marks_rise : (version : Version) (family : Family) (text : List ℕ) (regions : List (Option ImageRegion))
-    → AreMarks version family regions text → AllRise regions
-marks_rise version family text regions m c = by (region_in regions c) refl
-  where
-    by : (r : Option ImageRegion) → region_in regions c ≡ r → Rise 0 (objects_of r)
-    by None is = tt
-    by (Some region) is = elim (cases_lt c (length regions)) [
-      | inl low ↦
-          let at : slice_get regions c ≡ Some (Some region) =
-          slice_get-get_or regions c None low ∙ ap (λ (r : Option ImageRegion). Some r) is in
-          let shape = at_place version family 0 (length family) regions m.0 c region at in
-          numbered_rise version region.count 0 region.objects shape.numbers
-      | inr high ↦
-          let none : None ≡ Some region = sym (get_or_past regions c None high) ∙ is in absurd cc
-    ]
 
 pub few_regions : (version : Version) (family : Family) (text : List ℕ) (regions : List (Option ImageRegion))
     → AreMarks version family regions text → length regions ≡ length family
@@ -140,15 +101,6 @@ pub among : (version : Version) (family : Family) (bytes : List ℕ) (f : MarksF
 among version family bytes marks.Memory h = inl refl
 among version family bytes marks.Truncated h = inr (part _ h)
 among version family bytes (marks.Shape c) h = inr (part _ h)
-
--- the class of a region that names what there is not is one of the program's
-pub is_within : (version : Version) (family : Family) (bytes rest : List ℕ) (regions : List (Option ImageRegion))
-    (c : ℕ)
-    → Begins (AreMarks version family) bytes regions rest → IsNameless regions c → c < length family
-is_within version family bytes rest regions c b least =
-    let many = as_many version family 0 (length family) regions b.spelled.0 in
-    let lt = slice_get_within regions c least.mark least.is in
-    omega (arith, many, lt)
 
 -- ---- marks from regions of an image
 

@@ -58,3 +58,13 @@ pub next_least : (version : Version) (count many i least n : ℕ) → IsLeast ve
     → AreSoMany version count many → IsNumber version count least n → IsLeast version count (i + 1) (n + 1)
 next_least versions.One count many i least n is lt all number = omega (arith, is, number)
 next_least versions.Two count many i least n is lt all number = (let k = number.1 in omega (arith, k))
+
+pub not_below : (version : Version) (count least n : ℕ) → IsNumber version count least n → least ≤ n
+not_below versions.One count least n number = omega (arith, number)
+not_below versions.Two count least n number = number.0
+
+-- after at most as many as there are
+pub least_within : (version : Version) (count many i least : ℕ) → IsLeast version count i least → i ≤ many
+    → AreSoMany version count many → least ≤ count
+least_within versions.One count many i least is le all = omega (arith, is, le, all)
+least_within versions.Two count many i least is le all = is

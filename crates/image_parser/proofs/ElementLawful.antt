@@ -10,8 +10,8 @@ use Rattle.classfile.proofs.Lawful.{Lawful, IsWide, wide8, wide16, wide32, map_l
 use mir.ValLaws.{to_z-of_z, of_z_fits, to_z-Fits}
 use Rattle.program.specs.declared.runtime_constant.FieldKind.{FieldKind}
 use Rattle.program.specs.declared.runtime_constant.FieldKind.TheVariants as kinds
-use Rattle.image_format.specs.declared.value.ImageValue.{ImageValue}
-use Rattle.image_format.specs.declared.value.ImageValue.TheVariants as values
+use Rattle.image_format.specs.Values.{ImageValue}
+use Rattle.image_format.specs.Values as values
 use Rattle.image_format.specs.Shapes.{is_in_range, IsIntOf, Suits}
 use Rattle.image_format.specs.Texts.{element_text}
 use Rattle.image_parser.specs.RegionFaults.{CutNumber, ElementFails, IsElement}

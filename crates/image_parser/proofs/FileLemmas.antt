@@ -1,7 +1,6 @@
 -- Reading class files in turn, as a loop does.
 use Rattle.std.proofs.Common.{◌≡◌, ℕ, suc, ◌-◌, ◌+◌, ◌≤◌, ◌<◌, List, [], ◌∷◌, ◌++◌, length, Option, Some, Result, Ok}
-use Rattle.std.proofs.Common.{Err}
-use Rattle.std.proofs.Common.{refl, sym, ap, subst, ◌∙◌, append_assoc, arith, slice_get}
+use Rattle.std.proofs.Common.{Err, refl, sym, ap, subst, ◌∙◌, append_assoc, arith, slice_get}
 use Rattle.std.specs.Prelude.{option_map}
 use Rattle.std.proofs.lemmas.List.{append-nil, length-append}
 use Rattle.classfile.specs.declared.fault.ClassFault.{ClassFault}
@@ -140,10 +139,6 @@ next_file {n} {i} items bytes {file} {after} {goal} lt h so_far =
     ap (λ (z : Option (List ℕ)). after_files (items ++ file ∷ []) (files_at (n - (i + 1)) (i + 1) z after))
     (last_of items file) in
     named ∙ sym (more items file (files_at (n - (i + 1)) (i + 1) (Some (name_of file)) after)) ∙ sym one ∙ so_far
-
-pub first_file : (r : Many) → after_files [] r ≡ r
-first_file (Ok p) = refl
-first_file (Err e) = refl
 
 pub all_files : {n i : ℕ} (items : List ClassFile) (before : Option (List ℕ)) (bytes : List ℕ) {goal : Many}
     → n ≤ i → after_files items (files_at (n - i) i before bytes) ≡ goal → goal ≡ Ok (items, bytes)

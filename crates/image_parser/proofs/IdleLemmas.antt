@@ -1,21 +1,18 @@
 -- The least class that keeps an object which no static field reaches.
 use Rattle.std.proofs.Common.{◌≡◌, ◌⊎◌, inl, inr, ℕ, zero, suc, ◌+◌, ◌<◌, ◌≤◌, List, [], ◌∷◌, length, Option, Some}
-use Rattle.std.proofs.Common.{None}
+use Rattle.std.proofs.Common.{None, slice_get, eqb-true}
 use Rattle.std.proofs.Common.{Bool, true, false, ◌==◌, get_or, refl, sym, ap, subst, ◌∙◌, arith, eq-eqb}
 use Rattle.std.specs.List.{All}
 use Rattle.std.proofs.lemmas.Bool.{cases_lt}
 use Rattle.std.proofs.lemmas.List.{get_or_past}
 use Rattle.std.proofs.lemmas.Option.{slice_get_within, slice_get-get_or, same_Some}
-use Rattle.place_set.proofs.ListLemmas.{tested}
-use Rattle.image_format.specs.declared.object.ImageObject.{ImageObject}
-use Rattle.image_format.specs.declared.object.KeptObject.{KeptObject}
-use Rattle.image_format.specs.declared.region.ImageRegion.{ImageRegion}
+use Rattle.vm_state.proofs.ListLemmas.{tested}
+use Rattle.image_format.specs.Regions.{ImageObject, ImageRegion, KeptObject}
 use Rattle.image_format.specs.Objects.{region_in, objects_of, object_with, object_of}
 use Rattle.image_format.specs.Reached.{IsReached, AreReached}
 use Rattle.image_format.proofs.ReachedLemmas.{reached_known}
 use Rattle.image_parser.specs.Idle.{IsIdle}
 use Rattle.image_parser.proofs.OneOfLemmas.{all_or_not}
-use Rattle.image_parser.proofs.PlaceLemmas.{place_with}
 
 abbrev Held : Type 0
 Held = List (Option ImageRegion)
@@ -30,6 +27,21 @@ one_idle regions c d a b = elim (cases_lt c d) [
 ]
 
 -- ---- one of both
+
+-- the place of the object of a number
+place_with : (os : List KeptObject) (n : ℕ) (o : ImageObject) → object_with os n ≡ Some o
+    → (place : ℕ) × ((kept : KeptObject) × ((slice_get os place ≡ Some kept) × ((kept.number ≡ n)
+    × (kept.object ≡ o))))
+place_with [] n o e = absurd cc
+place_with (k ∷ ks) n o e = elim (tested (k.number == n)) [
+  | inl same ↦
+      let some : Some k.object ≡ Some o = rw same at e in
+      (0, (k, (refl, (eqb-true k.number n same, (let is : k.object ≡ o = cc in is)))))
+  | inr other ↦
+      let later : object_with ks n ≡ Some o = rw other at e in
+      let r = place_with ks n o later in
+      (suc r.0, (r.1.0, r.1.1))
+]
 
 some_with : (os : List KeptObject) (i : ℕ) (d : KeptObject) → i < length os
     → (o : ImageObject) × (object_with os (get_or os i d).number ≡ Some o)

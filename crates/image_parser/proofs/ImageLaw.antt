@@ -19,17 +19,18 @@ use Rattle.classfile.proofs.RuleLawful.{IsBytes-front}
 use Rattle.loading.specs.Families.{Family, IsFamilyOf}
 use Rattle.loading.specs.Files.{LinkFails}
 use Rattle.loading.proofs.FilesFaultLemmas.{not_both as link_not_both, one_fault as one_link_fault}
-use Rattle.one_program.proofs.FamiliesLemmas.{one_family}
-use Rattle.image_format.specs.declared.region.ImageRegion.{ImageRegion}
+use Rattle.program.proofs.OneFamilyLemmas.{one_family}
+use Rattle.image_format.specs.Regions.{ImageRegion}
 use Rattle.image_format.specs.declared.version.Version.{Version}
 use Rattle.image_format.specs.declared.version.Version.TheVariants as versions
-use Rattle.program.specs.Programs.{files_of as classes_of}
+use Rattle.program.specs.Programs.{IsProgram, files_of as classes_of}
 use Rattle.image_format.specs.Images.{VersionText, ImageText, OldText, SomeText}
 use Rattle.image_format.specs.Reached.{IsDropped}
 use Rattle.image_format.specs.Texts.{given_text, mark_text, version_number}
 use Rattle.image_format.proofs.DroppedLemmas.{one_dropped}
 use Rattle.image_parser.specs.declared.fault.FilesFault.{FilesFault}
 use Rattle.image_parser.specs.declared.fault.RegionFault.{RegionFault}
+use Rattle.image_parser.specs.declared.image.Parsed.{Parsed}
 use Rattle.image_parser.specs.declared.image_fault.ImageFault.{ImageFault}
 use Rattle.image_parser.specs.declared.image_fault.ImageFault.TheVariants as faults
 use Rattle.image_parser.specs.AllRegions.{RegionsText, RegionsFail}
@@ -39,6 +40,7 @@ use Rattle.image_parser.specs.ImageFaults.{of_header, of_files, of_link, of_regi
 use Rattle.image_parser.specs.ImageFaults.{PartsFail, ImageParts, IsImage, ImageFails}
 use Rattle.image_parser.specs.ImageFaults.PartsFail.{files, link, regions}
 use Rattle.image_parser.specs.ImageFaults.ImageFails.{frame, within}
+use Rattle.image_parser.specs.Parsings.{IsOfFiles, IsParsed, told_in}
 use Rattle.image_parser.specs.TextOrFault.{TextOrFault}
 use Rattle.image_parser.specs.reading.Files.{files_at}
 use Rattle.image_parser.specs.reading.Results.{number_at}
@@ -447,28 +449,50 @@ one_of bytes fits = record {
 
 -- ---- what is answered, unless memory runs out
 
-module _ {Y : Type 0} (view : Y → ImageParts) where
-  pub only_image : (bytes : List ℕ) (result : Result Y ImageFault) → IsBytes bytes
-      → IfOk result (λ y. SomeText bytes (view y).0 (view y).1)
+module _ (bytes : List ℕ) (fits : IsBytes bytes) where
+  one_reading : (v w : Version) (F G : Family) (a b : Held) → VersionText v bytes F a → VersionText w bytes G b
+      → (v ≡ w) × (F ≡ G) × (a ≡ b)
+  one_reading v w F G a b s t =
+      let same : v ≡ w = one_version bytes v w F G a b s t in
+      let P : Version → Type 0 = λ z. VersionText z bytes G b in
+      let whole = one_whole bytes fits v F G a b s (subst P (sym same) t) in
+      (same, whole.0, whole.1)
+
+  only_text : (result : Result Parsed ImageFault)
+      → IfOk result (λ p. VersionText p.version bytes p.program.family (told_in p))
       → IfErr result (λ f. (f ≡ faults.Memory) ⊎ ImageFails bytes f)
-      → (family : Family) (held : List (Option ImageRegion)) → SomeText bytes family held
-      → MatchResult result (λ y. ((view y).0 ≡ family) × ((view y).1 ≡ held)) (λ f. f ≡ faults.Memory)
-  only_image bytes (Ok y) fits ok err family held text =
-      let same = (one_of bytes fits).one_text (view y) (family, held) ok text in
-      (ap (λ (z : ImageParts). z.0) same, ap (λ (z : ImageParts). z.1) same)
-  only_image bytes (Err f) fits ok err family held text =
+      → (version : Version) (family : Family) (held : Held) → VersionText version bytes family held
+      → MatchResult result (λ p. (p.version ≡ version) × (p.program.family ≡ family) × (told_in p ≡ held))
+      (λ f. f ≡ faults.Memory)
+  only_text (Ok p) ok err version family held text =
+      one_reading p.version version p.program.family family (told_in p) held ok text
+  only_text (Err f) ok err version family held text =
       elim err [
         | inl memory ↦ memory
-        | inr fails ↦ absurd ((one_of bytes fits).not_both (family, held) f text fails)
+        | inr fails ↦ absurd (no_fault bytes fits version family held f text fails)
       ]
 
-  pub only_image_fault : (bytes : List ℕ) (result : Result Y ImageFault) → IsBytes bytes
-      → IfOk result (λ y. SomeText bytes (view y).0 (view y).1)
+  only_fault : (result : Result Parsed ImageFault)
+      → IfOk result (λ p. VersionText p.version bytes p.program.family (told_in p))
       → IfErr result (λ f. (f ≡ faults.Memory) ⊎ ImageFails bytes f)
       → (x : ImageFault) → ImageFails bytes x → (result ≡ Err x) ⊎ (result ≡ Err faults.Memory)
-  only_image_fault bytes (Ok y) fits ok err x fails = absurd ((one_of bytes fits).not_both (view y) x ok fails)
-  only_image_fault bytes (Err f) fits ok err x fails =
+  only_fault (Ok p) ok err x fails =
+      absurd (no_fault bytes fits p.version p.program.family (told_in p) x ok fails)
+  only_fault (Err f) ok err x fails =
       elim err [
         | inl memory ↦ inr (ap (λ (z : ImageFault). Err z) memory)
         | inr mine ↦ inl (ap (λ (z : ImageFault). Err z) ((one_of bytes fits).one_fault f x mine fails))
       ]
+
+  pub is_parsed : (result : Result Parsed ImageFault)
+      → IfOk result (λ p. VersionText p.version bytes p.program.family (told_in p))
+      → IfOk result (λ p. IsProgram p.program) → IfOk result (λ p. IsOfFiles p.program p.regions)
+      → IfErr result (λ f. (f ≡ faults.Memory) ⊎ ImageFails bytes f) → IsParsed bytes result
+  is_parsed result text program made fault = record {
+    text = text;
+    program = program;
+    files = made;
+    only_text = only_text result text fault;
+    fault = fault;
+    only_fault = only_fault result text fault;
+  }

@@ -22,7 +22,7 @@ use Rattle.loading.specs.declared.fault.LinkFault.TheVariants as link_faults
 use Rattle.loading.specs.Families.{Family}
 use Rattle.loading.specs.Files.{LinkFails, Links}
 use Rattle.loading.proofs.UnitsLemmas.{same_units}
-use Rattle.image_format.specs.declared.region.ImageRegion.{ImageRegion}
+use Rattle.image_format.specs.Regions.{ImageRegion}
 use Rattle.image_format.specs.declared.version.Version.{Version}
 use Rattle.image_format.specs.declared.version.Version.TheVariants as versions
 use Rattle.image_format.specs.Images.{AreRegions, VersionText, SomeText}
@@ -32,14 +32,24 @@ use Rattle.image_parser.specs.declared.fault.FilesFault.{FilesFault}
 use Rattle.image_parser.specs.declared.fault.FilesFault.TheVariants as file_faults
 use Rattle.image_parser.specs.declared.fault.RegionsFault.{RegionsFault}
 use Rattle.image_parser.specs.declared.fault.RegionsFault.TheVariants as region_faults
+use Rattle.image_parser.specs.declared.image.Parsed.{Parsed}
 use Rattle.image_parser.specs.declared.image_fault.ImageFault.{ImageFault}
 use Rattle.image_parser.specs.declared.image_fault.ImageFault.TheVariants as faults
-use Rattle.image_parser.specs.AllRegions.{RegionsText, RegionsFail, IsShown, RegionsRead}
+use Rattle.image_parser.specs.AllRegions.{RegionsText, RegionsFail, IsShown}
 use Rattle.image_parser.specs.FileFaults.{AreFiles, FilesFail}
 use Rattle.image_parser.specs.HeaderFaults.{IsFramed}
 use Rattle.image_parser.specs.ImageFaults.{of_files, of_link, of_regions, HasFiles, IsLinked, PartsText, PartsFail}
-use Rattle.image_parser.specs.ImageFaults.{PartsRead}
-use Rattle.image_parser.specs.ImageFaults.{ImageParts, ImageFails}
+use Rattle.image_parser.specs.reading.Marked.{RegionsHeld}
+use Rattle.image_parser.specs.Parsings.{IsOfFiles, told_in}
+use Rattle.image_parser.proofs.ToldLemmas.{regions_told}
+use Rattle.object_graph.proofs.ProgramsLemmas.{static_count}
+use Rattle.region_shape.specs.declared.regions.Region.{Region as Held}
+use Rattle.region_shape.specs.Regions.{environment_of}
+use Rattle.program.specs.Programs.{HasOwnStrings, IsProgram}
+use Rattle.program.specs.Tables.{Tables}
+use Rattle.image_format.specs.Shapes.{HasShape}
+use Rattle.image_format.specs.Told.{told_regions}
+use Rattle.image_parser.specs.ImageFaults.{ImageFails}
 use Rattle.image_parser.specs.ImageFaults.PartsFail.{files, link, regions}
 use Rattle.image_parser.specs.ImageFaults.ImageFails.{within}
 use Rattle.image_parser.specs.Regions.{Begins}
@@ -163,14 +173,27 @@ parts_text version parts family rest held linked told =
           ∙ ap (λ (z : List ℕ). u4 (length family) ++ (flat_map given_text family ++ z)) told.spelled;
     }
 
-pub parts_read : (version : Version) (parts : List ℕ) (family : Family) (rest : List ℕ)
-    (held : List (Option ImageRegion)) → IsLinked parts family rest → RegionsRead version family rest held
-    → PartsRead version parts family held
-parts_read version parts family rest held linked read = record {
-  all = read.all;
-  told = parts_text version parts family rest read.all linked read.told;
-  shown = read.shown;
-}
+-- regions that hold what the parts tell
+module _ (version : Version) (P Q : Tables) (rest : List ℕ) (regions : List (Option Held))
+    (held : RegionsHeld version P Q rest regions) (is : IsProgram Q) where
+  told_is : told_regions Q (environment_of regions) ≡ held.told
+  told_is =
+      let family = held.holds.adds.family in
+      regions_told version Q (static_count Q is) held.told (environment_of regions)
+      (held.text.fits.count ∙ ap length (sym family))
+      (λ c t at. subst (λ (f : Family). HasShape version f c t) (sym family) (held.text.fits.shapes c t at))
+      held.holds.holds
+
+  pub parts_held : (parts : List ℕ) → IsLinked parts P.family rest
+      → PartsText version parts Q.family (told_regions Q (environment_of regions))
+  parts_held parts linked =
+      let text = parts_text version parts P.family rest held.told linked held.text in
+      subst (λ (told : List (Option ImageRegion)). PartsText version parts Q.family told) (sym told_is)
+      (subst (λ (f : Family). PartsText version parts f held.told) (sym held.holds.adds.family) text)
+
+  pub files_held : IsProgram P → HasOwnStrings P → IsOfFiles Q regions
+  files_held linked own =
+      record { linked = P; program = linked; own_strings = own; holds = rw told_is held.holds }
 
 pub image_text : (bytes : List ℕ) (version : Version) (parts : List ℕ) (family : Family)
     (held : List (Option ImageRegion)) → IsFramed bytes version parts → PartsText version parts family held
@@ -194,17 +217,6 @@ some_text versions.Two bytes family all held text shown =
     let P : List (Option ImageRegion) → Type 0 = λ z. VersionText versions.Two bytes family z in
     inl (subst P (sym shown) text)
 
-pub shown_fits : (version : Version) (family : Family) (all held : List (Option ImageRegion))
-    → AreRegions version family all → IsShown version all held → AreRegions versions.Two family held
-shown_fits versions.One family all held fits shown = dropped_fits family all held fits shown
-shown_fits versions.Two family all held fits shown =
-    let P : List (Option ImageRegion) → Type 0 = λ z. AreRegions versions.Two family z in subst P (sym shown) fits
-
-pub some_fits : (bytes : List ℕ) (family : Family) (held : List (Option ImageRegion)) → SomeText bytes family held
-    → AreRegions versions.Two family held
-some_fits bytes family held (inl text) = text.fits
-some_fits bytes family held (inr old) = dropped_fits family old.all held old.text.fits old.dropped
-
 -- ---- answers of functions
 
 pub parts_refused : {X : Type 0} (bytes : List ℕ) (version : Version) (parts : List ℕ) (result : Result X ImageFault)
@@ -213,17 +225,11 @@ pub parts_refused : {X : Type 0} (bytes : List ℕ) (version : Version) (parts :
 parts_refused bytes version parts (Ok x) framed h = tt
 parts_refused bytes version parts (Err f) framed h = parts_fail bytes version parts f framed h
 
-module _ {Y : Type 0} (view : Y → ImageParts) where
-  pub parts_accepted : (bytes : List ℕ) (version : Version) (parts : List ℕ) (result : Result Y ImageFault)
-      → IsFramed bytes version parts → IfOk result (λ y. PartsRead version parts (view y).0 (view y).1)
-      → IfOk result (λ y. SomeText bytes (view y).0 (view y).1)
-  parts_accepted bytes version parts (Ok y) framed h =
-      some_text version bytes (view y).0 h.all (view y).1
-      (image_text bytes version parts (view y).0 h.all framed h.told) h.shown
-  parts_accepted bytes version parts (Err f) framed h = tt
-
-  pub all_fit : (bytes : List ℕ) (result : Result Y ImageFault)
-      → IfOk result (λ y. SomeText bytes (view y).0 (view y).1)
-      → IfOk result (λ y. AreRegions versions.Two (view y).0 (view y).1)
-  all_fit bytes (Ok y) h = some_fits bytes (view y).0 (view y).1 h
-  all_fit bytes (Err f) h = tt
+pub parts_accepted : (bytes : List ℕ) (version : Version) (parts : List ℕ) (result : Result Parsed ImageFault)
+    → IsFramed bytes version parts
+    → IfOk result (λ p. (p.version ≡ version) × PartsText version parts p.program.family (told_in p))
+    → IfOk result (λ p. VersionText p.version bytes p.program.family (told_in p))
+parts_accepted bytes version parts (Ok p) framed h =
+    subst (λ (v : Version). VersionText v bytes p.program.family (told_in p)) (sym h.0)
+    (image_text bytes version parts p.program.family (told_in p) framed h.1)
+parts_accepted bytes version parts (Err f) framed h = tt

@@ -1,7 +1,6 @@
 -- Readers of marks are lawful.
 use Rattle.std.proofs.Common.{◌≡◌, ℕ, zero, suc, List, [], ◌++◌, length, Some, None, Result, Ok, Err, refl, sym, ap}
 use Rattle.std.proofs.Common.{◌∙◌, arith}
-use Rattle.std.specs.Prelude.{IfOk, IfErr}
 use Rattle.std.specs.Int.{w8}
 use Rattle.classfile.specs.Spelling.{u1}
 use Rattle.classfile.specs.Faults.{Number, IsBytes}
@@ -13,10 +12,9 @@ use Rattle.image_parser.specs.declared.fault.RegionFault.{RegionFault}
 use Rattle.image_parser.specs.declared.fault.MarksFault.{MarksFault}
 use Rattle.image_parser.specs.declared.fault.MarksFault.TheVariants as marks
 use Rattle.image_parser.specs.RegionFaults.{IsRegion, RegionFails}
-use Rattle.image_parser.specs.Regions.{Begins}
 use Rattle.image_parser.specs.Inside.{inside}
 use Rattle.image_parser.specs.MarkFaults.{numbers, MarkFits, IsMark, MarkedFails, MarkFails, MarkFailsIn, MarksFail}
-use Rattle.image_parser.specs.MarkFaults.{AreMarks, IsMarksFault, FailsIn, GivesIn}
+use Rattle.image_parser.specs.MarkFaults.{AreMarks, IsMarksFault, FailsIn}
 use Rattle.image_parser.specs.reading.Results.{number_at}
 use Rattle.image_parser.specs.reading.Objects.{region_at}
 use Rattle.image_parser.specs.reading.Marks.{Mark, marked, marked_at, mark_at, inside_at, mark_in, marks_at}
@@ -120,26 +118,10 @@ marks_lawful version family fits =
 
 -- ---- what the reader answers, unless memory runs out
 
-pub marks_text : {Y : Type 0} (version : Version) (family : Family) → IsFamily family → (view : Y → List Mark × List ℕ)
-    (result : Result Y MarksFault) (bytes : List ℕ) → IsBytes bytes
-    → GivesIn view result (marks_at version family bytes)
-    → IfOk result (λ y. Begins (AreMarks version family) bytes (view y).0 (view y).1)
-marks_text version family fam view (Ok y) bytes fits e =
-    let t = (marks_lawful version family fam).takes bytes (view y).0 (view y).1 fits e in
-    record { text = t.text; spelled = t.spelled; parts = t.parts }
-marks_text version family fam view (Err f) bytes fits e = tt
-
-refused : (version : Version) (family : Family) → IsFamily family → (f : MarksFault) (bytes : List ℕ) → IsBytes bytes
-    → FailsIn f (marks_at version family bytes) → IsMarksFault (MarksFail version family bytes) f
-refused version family fam marks.Memory bytes fits e = tt
-refused version family fam marks.Truncated bytes fits e = (marks_lawful version family fam).blames bytes
+pub marks_refused : (version : Version) (family : Family) → IsFamily family → (f : MarksFault) (bytes : List ℕ)
+    → IsBytes bytes → FailsIn f (marks_at version family bytes) → IsMarksFault (MarksFail version family bytes) f
+marks_refused version family fam marks.Memory bytes fits e = tt
+marks_refused version family fam marks.Truncated bytes fits e = (marks_lawful version family fam).blames bytes
     marks.Truncated fits e
-refused version family fam (marks.Shape c) bytes fits e = (marks_lawful version family fam).blames bytes
+marks_refused version family fam (marks.Shape c) bytes fits e = (marks_lawful version family fam).blames bytes
     (marks.Shape c) fits e
-
-pub marks_fault : {Y : Type 0} (version : Version) (family : Family) → IsFamily family → (view : Y → List Mark × List ℕ)
-    (result : Result Y MarksFault) (bytes : List ℕ) → IsBytes bytes
-    → GivesIn view result (marks_at version family bytes)
-    → IfErr result (λ f. IsMarksFault (MarksFail version family bytes) f)
-marks_fault version family fam view (Ok y) bytes fits e = tt
-marks_fault version family fam view (Err f) bytes fits e = refused version family fam f bytes fits e

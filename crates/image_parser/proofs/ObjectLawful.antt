@@ -24,11 +24,10 @@ use Rattle.loading.proofs.UniquenessLemmas.{one_class}
 use Rattle.program.specs.declared.runtime_constant.FieldKind.{FieldKind}
 use Rattle.program.specs.declared.runtime_constant.FieldKind.TheVariants as kinds
 use Rattle.program.specs.InstanceFields.{slots_of, static_kinds}
-use Rattle.image_format.specs.declared.value.ImageValue.{ImageValue}
-use Rattle.image_format.specs.declared.object.ImageClass.{ImageClass}
-use Rattle.image_format.specs.declared.object.ImageClass.TheVariants as image
-use Rattle.image_format.specs.declared.object.ImageObject.{ImageObject}
-use Rattle.image_format.specs.declared.region.ImageRegion.{ImageRegion}
+use Rattle.image_format.specs.Values.{ImageValue}
+use Rattle.image_format.specs.Classes.{ImageClass}
+use Rattle.image_format.specs.Classes as image
+use Rattle.image_format.specs.Regions.{ImageObject, ImageRegion}
 use Rattle.image_format.specs.Elements.{kind_of_elements}
 use Rattle.image_format.specs.Names.{class_name, name_of_class}
 use Rattle.image_format.specs.Shapes.{Suits, KnownHasObjects, HasObjects, AreElements, AreSlots, ObjectHasShape}

@@ -15,9 +15,7 @@ use Rattle.classfile.proofs.Lawful.{Lawful, Both, Is, Mapped, wide32, pure_lawfu
 use Rattle.classfile.proofs.RuleLawful.{append_equal, ruled_lawful}
 use Rattle.loading.specs.Families.{Family, IsFamily}
 use Rattle.program.specs.InstanceFields.{static_kinds}
-use Rattle.image_format.specs.declared.object.ImageObject.{ImageObject}
-use Rattle.image_format.specs.declared.object.KeptObject.{KeptObject}
-use Rattle.image_format.specs.declared.region.ImageRegion.{ImageRegion}
+use Rattle.image_format.specs.Regions.{ImageObject, ImageRegion, KeptObject}
 use Rattle.image_format.specs.declared.version.Version.{Version}
 use Rattle.image_format.specs.declared.version.Version.TheVariants as versions
 use Rattle.image_format.specs.Shapes.{Suits, ObjectHasShape, IsNumber, AreNumbered, AreSoMany, HasShape}

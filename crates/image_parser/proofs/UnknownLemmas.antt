@@ -242,6 +242,20 @@ spelled : (name : List ℕ) (p : ℕ × List ℕ) → unknown_of name ≡ Some p
 unfolding unknown_of
 spelled name p e = spelled_by name (brackets name) (object_in (rest_of name)) p (front_is name) refl e
 
+-- the name of the elements' class is modified UTF-8, and shorter
+pub unknown_text : (name : List ℕ) (p : ℕ × List ℕ) → unknown_of name ≡ Some p
+    → IsModifiedUtf8 p.1 × (length p.1 < length name)
+unknown_text name p e =
+    let s = spelled name p e in (
+      s.good.1,
+      omega (
+        arith,
+        ap length s.is,
+        length-append (replicate p.0 91) (object_type p.1),
+        length-append p.1 (59 ∷ []),
+      ),
+    )
+
 object_no_array : (name : List ℕ) → IsNoArray (object_type name)
 object_no_array name rest e =
     let first : 76 ≡ 91 = ap (λ (z : List ℕ). get_or z 0 0) e in omega (arith, first)

@@ -17,8 +17,8 @@ use Rattle.classfile.proofs.Lawful.{map_lawful}
 use Rattle.classfile.proofs.RuleLawful.{Refuses, append_equal, kept_lawful, guarded_lawful}
 use Rattle.program.specs.declared.runtime_constant.FieldKind.{FieldKind}
 use Rattle.program.specs.declared.runtime_constant.FieldKind.TheVariants as kinds
-use Rattle.image_format.specs.declared.value.ImageValue.{ImageValue}
-use Rattle.image_format.specs.declared.value.ImageValue.TheVariants as values
+use Rattle.image_format.specs.Values.{ImageValue}
+use Rattle.image_format.specs.Values as values
 use Rattle.image_format.specs.Shapes.{is_in_range, IsIntOf, IsLong, IsReference, Suits}
 use Rattle.image_format.specs.Texts.{u8, units_text, value_text}
 use Rattle.image_parser.specs.declared.fault.RegionFault.TheVariants as faults

@@ -2,7 +2,7 @@
 use Rattle.std.specs.Prelude.{◌≡◌, ◌≢◌, ℕ, List, [], ◌++◌, Option}
 use Rattle.std.specs.List.{All, flat_map}
 use Rattle.loading.specs.Families.{Family}
-use Rattle.image_format.specs.declared.region.ImageRegion.{ImageRegion}
+use Rattle.image_format.specs.Regions.{ImageRegion}
 use Rattle.image_format.specs.declared.version.Version.{Version}
 use Rattle.image_format.specs.declared.version.Version.TheVariants as versions
 use Rattle.image_format.specs.Images.{AreRegions}
@@ -33,15 +33,7 @@ pub data RegionsFail (version : Version) (family : Family) (bytes : List ℕ) : 
       → AreMarks version family regions bytes → All (MarkNames regions) regions → IsIdle regions c
       → RegionsFail version family bytes (faults.Idle c)
 
--- ---- what a reader answers
-
--- the regions that are told; of version 1 without the objects that are not reached
+-- the regions of an image whose text tells these: of version 1 without the objects that are not reached
 abbrev pub IsShown : Version → List (Option ImageRegion) → List (Option ImageRegion) → Type 0
 IsShown versions.One all regions = IsDropped all regions
 IsShown versions.Two all regions = regions ≡ all
-
-pub record RegionsRead (version : Version) (family : Family) (bytes : List ℕ) (regions : List (Option ImageRegion))
-    : Type 0 where
-  pub all : List (Option ImageRegion)
-  pub told : RegionsText version family bytes all
-  pub shown : IsShown version all regions

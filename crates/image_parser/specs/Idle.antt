@@ -1,6 +1,6 @@
 -- Regions that keep an object which no static field reaches.
 use Rattle.std.specs.Prelude.{ℕ, ◌<◌, List, Option}
-use Rattle.image_format.specs.declared.region.ImageRegion.{ImageRegion}
+use Rattle.image_format.specs.Regions.{ImageRegion}
 use Rattle.image_format.specs.Reached.{AreReached}
 
 -- the least class whose region keeps one

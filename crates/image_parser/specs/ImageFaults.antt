@@ -8,7 +8,7 @@ use Rattle.loading.specs.declared.fault.LinkFault.{LinkFault}
 use Rattle.loading.specs.declared.fault.LinkFault.TheVariants as link_faults
 use Rattle.loading.specs.Families.{Family, IsFamily, IsFamilyOf, name_in}
 use Rattle.loading.specs.Files.{LinkFails, Links}
-use Rattle.image_format.specs.declared.region.ImageRegion.{ImageRegion}
+use Rattle.image_format.specs.Regions.{ImageRegion}
 use Rattle.image_format.specs.declared.version.Version.{Version}
 use Rattle.program.specs.Programs.{files_of}
 use Rattle.image_format.specs.Images.{AreRegions, AreClassFiles, AreShort, SomeText}
@@ -21,7 +21,7 @@ use Rattle.image_parser.specs.declared.header.HeaderFault.{HeaderFault}
 use Rattle.image_parser.specs.declared.header.HeaderFault.TheVariants as header_faults
 use Rattle.image_parser.specs.declared.image_fault.ImageFault.{ImageFault}
 use Rattle.image_parser.specs.declared.image_fault.ImageFault.TheVariants as faults
-use Rattle.image_parser.specs.AllRegions.{RegionsFail, IsShown}
+use Rattle.image_parser.specs.AllRegions.{RegionsFail}
 use Rattle.image_parser.specs.FileFaults.{AreFiles, FilesFail}
 use Rattle.image_parser.specs.HeaderFaults.{HeaderFails, IsFramed}
 
@@ -91,13 +91,6 @@ pub data PartsFail (version : Version) (parts : List ℕ) : ImageFault → Type 
       → PartsFail version parts (of_link e)
   regions : (family : Family) (rest : List ℕ) (e : RegionsFault) → IsLinked parts family rest
       → RegionsFail version family rest e → PartsFail version parts (of_regions family e)
-
--- what a reader answers of the parts
-pub record PartsRead (version : Version) (parts : List ℕ) (family : Family) (regions : List (Option ImageRegion))
-    : Type 0 where
-  pub all : List (Option ImageRegion)
-  pub told : PartsText version parts family all
-  pub shown : IsShown version all regions
 
 -- ---- images
 

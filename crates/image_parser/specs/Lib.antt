@@ -12,3 +12,4 @@ pub mod FileFaults
 pub mod ImageFaults
 pub mod MarkFaults
 pub mod reading
+pub mod Parsings

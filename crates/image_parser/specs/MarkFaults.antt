@@ -4,7 +4,7 @@ use Rattle.std.specs.List.{AllZip, flat_map}
 use Rattle.std.specs.Int.{w8}
 use Rattle.classfile.specs.Faults.{Either, Number}
 use Rattle.loading.specs.Families.{Family}
-use Rattle.image_format.specs.declared.region.ImageRegion.{ImageRegion}
+use Rattle.image_format.specs.Regions.{ImageRegion}
 use Rattle.image_format.specs.declared.version.Version.{Version}
 use Rattle.image_format.specs.Shapes.{HasShape}
 use Rattle.image_format.specs.Texts.{mark_text}
@@ -58,11 +58,7 @@ abbrev pub IsMarksFault : (MarksFault → Type 0) → MarksFault → Type 0
 IsMarksFault Fails marks.Memory = Unit {0}
 IsMarksFault Fails fault = Fails fault
 
--- What a function returned, seen by view, is what reading gives, unless memory ran out.
+-- reading fails so, unless memory ran out
 abbrev pub FailsIn : {Y : Type 0} → MarksFault → Result Y MarksFault → Type 0
 FailsIn marks.Memory read = Unit {0}
 FailsIn e read = read ≡ Err e
-
-abbrev pub GivesIn : {X Y : Type 0} → (X → Y) → Result X MarksFault → Result Y MarksFault → Type 0
-GivesIn view (Ok x) read = read ≡ Ok (view x)
-GivesIn view (Err e) read = FailsIn e read

@@ -1,8 +1,7 @@
 -- Regions that name an object that there is not.
 use Rattle.std.specs.Prelude.{◌≡◌, ℕ, List, take, Option, Some, None, slice_get}
 use Rattle.std.specs.List.{All}
-use Rattle.image_format.specs.declared.object.KeptObject.{KeptObject}
-use Rattle.image_format.specs.declared.region.ImageRegion.{ImageRegion}
+use Rattle.image_format.specs.Regions.{ImageRegion, KeptObject}
 use Rattle.image_format.specs.Images.{IsThere, NamesObjects}
 
 abbrev pub SlotsAreThere : List (Option ImageRegion) → KeptObject → Type 0

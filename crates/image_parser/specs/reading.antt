@@ -1,9 +1,12 @@
 pub mod Results
+pub mod Held
+pub mod Reads
+pub mod Named
+pub mod Marked
 pub mod Values
 pub mod ClassNames
 pub mod Unknown
 pub mod Objects
 pub mod Marks
 pub mod Files
-pub mod Reaching
 pub mod Frames

@@ -115,10 +115,10 @@ impl RegionFault {
     }
 }
 
-impl<T: Drop> From<AllocFailed<T>> for MarksFault {
+impl From<AllocError> for MarksFault {
     ghost from_gives = { λ _ e. e ≡ marks.Memory };
 
-    fn from(_error: AllocFailed<T>) -> MarksFault {
+    fn from(_error: AllocError) -> MarksFault {
         MarksFault::Memory
     }
 }

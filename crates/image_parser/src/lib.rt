@@ -1,7 +1,6 @@
 //! Reads images.
 #![tactic(auto)]
 
-mod dropping;
 mod fault;
 mod files;
 mod header;
@@ -12,7 +11,6 @@ mod marks;
 mod names;
 mod numbers;
 mod objects;
-mod reaching;
 mod regions;
 mod tag;
 mod unknown;

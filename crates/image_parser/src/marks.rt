@@ -1,29 +1,34 @@
 //! The marks and regions of all classes.
 
-ghost use Rattle.std.specs.Prelude.{◌<◌, Option, Ok, Err, IfOk, IfErr};
-ghost use Rattle.image_parser.specs.Regions.{Begins};
-ghost use Rattle.image_parser.specs.MarkFaults.{numbers, AreMarks, MarksFail, IsMarksFault, GivesIn};
-ghost use Rattle.image_parser.specs.reading.Results.{Gives, each_at};
+ghost use Rattle.std.specs.Prelude.{◌≡◌, ◌++◌, ◌∷◌, [], ℕ, List, Option, IfOk, IfErr, OnOk, length, option_map};
+ghost use Rattle.region_shape.specs.Regions.{environment_of, region_of};
+ghost use Rattle.image_format.specs.Regions.{ImageRegion as Told};
+ghost use Rattle.image_parser.specs.MarkFaults.{numbers, AreMarks, MarksFail, IsMarksFault};
+ghost use Rattle.image_parser.specs.reading.Held.{HoldsClass, HoldsRegions};
+ghost use Rattle.image_parser.specs.reading.Marked.{AreHeld};
 ghost use Rattle.image_parser.specs.reading.Marks.{marked_at, mark_at, mark_in, marks_at};
+ghost use Rattle.image_parser.specs.reading.Reads.{Reads, ReadsIn};
+ghost use Rattle.image_parser.specs.reading.Results.{each_at};
 
 use crate::fault::{MarksFault, RegionFault};
 use crate::kept_objects::region_at;
 use crate::numbers::u8_at;
-use image_format::region::{ImageRegion, ImageRegions};
 use image_format::version::Version;
 use program::Program;
-use std::alloc::Global;
+use region_shape::regions::{Region, Regions};
+use std::alloc::{AllocError, Global};
 
 /// What follows the mark of a class.
 fn marked_at<'a>(
     alloc: Global,
     version: Version,
-    program: &Program,
+    program: &mut Program,
     class: u32,
     mark: u8,
     bytes: &'a [u8],
-) -> Result<(Option<ImageRegion>, &'a [u8]), RegionFault>
-    ensures { Gives (λ x. (x.0, x.1.now)) result (marked_at version program.now.family class mark bytes.now) }
+) -> Result<(Option<Region>, &'a [u8]), RegionFault>
+    ensures { Reads HoldsClass (λ x. (option_map region_of x.0, x.1.now)) program.old program.new result
+        (marked_at version program.old.family class mark bytes.now) }
 {
     match mark {
         0 => Ok((None, bytes)),
@@ -36,11 +41,12 @@ fn marked_at<'a>(
 fn some_at<'a>(
     alloc: Global,
     version: Version,
-    program: &Program,
+    program: &mut Program,
     class: u32,
     bytes: &'a [u8],
-) -> Result<(Option<ImageRegion>, &'a [u8]), RegionFault>
-    ensures { Gives (λ x. (x.0, x.1.now)) result (marked_at version program.now.family class 1 bytes.now) }
+) -> Result<(Option<Region>, &'a [u8]), RegionFault>
+    ensures { Reads HoldsClass (λ x. (option_map region_of x.0, x.1.now)) program.old program.new result
+        (marked_at version program.old.family class 1 bytes.now) }
 {
     let (region, rest) = region_at(alloc, version, program, class, bytes)?;
     Ok((Some(region), rest))
@@ -51,11 +57,12 @@ fn some_at<'a>(
 fn mark_at<'a>(
     alloc: Global,
     version: Version,
-    program: &Program,
+    program: &mut Program,
     class: u32,
     bytes: &'a [u8],
-) -> Result<(Option<ImageRegion>, &'a [u8]), RegionFault>
-    ensures { Gives (λ x. (x.0, x.1.now)) result (mark_at version program.now.family class bytes.now) }
+) -> Result<(Option<Region>, &'a [u8]), RegionFault>
+    ensures { Reads HoldsClass (λ x. (option_map region_of x.0, x.1.now)) program.old program.new result
+        (mark_at version program.old.family class bytes.now) }
 {
     let (mark, rest) = u8_at(bytes)?;
     marked_at(alloc, version, program, class, mark, rest)
@@ -66,11 +73,12 @@ fn mark_at<'a>(
 fn mark_in<'a>(
     alloc: Global,
     version: Version,
-    program: &Program,
+    program: &mut Program,
     class: u32,
     bytes: &'a [u8],
-) -> Result<(Option<ImageRegion>, &'a [u8]), MarksFault>
-    ensures { GivesIn (λ x. (x.0, x.1.now)) result (mark_in version program.now.family class bytes.now) }
+) -> Result<(Option<Region>, &'a [u8]), MarksFault>
+    ensures { ReadsIn HoldsClass (λ x. (option_map region_of x.0, x.1.now)) program.old program.new result
+        (mark_in version program.old.family class bytes.now) }
 {
     match mark_at(alloc, version, program, class, bytes) {
         Ok(read) => Ok(read),
@@ -78,22 +86,36 @@ fn mark_in<'a>(
     }
 }
 
-/// Reads the marks of so many classes after those that stand before.
+/// Adds the region of a class, if it is initialized, to those of all lower classes.
+fn add_region(class: u32, region: Option<Region>, regions: &mut Regions) -> Result<(), AllocError>
+    ensures { (strings : List (List ℕ)) (lower : List (Option Told)) (told : Option Told) → length lower ≡ class
+        → HoldsRegions strings lower (environment_of regions.old)
+        → HoldsClass strings told (option_map region_of region)
+        → OnOk result (HoldsRegions strings (lower ++ told ∷ []) (environment_of regions.new)) }
+{
+    match region {
+        Some(region) => regions.put(class, region),
+        None => Ok(()),
+    }
+}
+
+/// Reads the marks of so many classes, and keeps their regions where there are none.
 fn push_marks_at<'a>(
     alloc: Global,
     version: Version,
-    program: &Program,
+    program: &mut Program,
     count: u32,
-    regions: &mut Vec<Option<ImageRegion>>,
+    regions: &mut Regions,
     bytes: &'a [u8],
 ) -> Result<&'a [u8], MarksFault>
-    ensures { GivesIn (λ rest. (regions.new.items, rest.now)) result
-        (each_at (mark_in version program.now.family) (numbers 0 count) regions.old.items bytes.now) }
+    requires { regions.old ≡ [] }
+    ensures { ReadsIn HoldsRegions (λ rest. (environment_of regions.new, rest.now)) program.old program.new result
+        (each_at (mark_in version program.old.family) (numbers 0 count) [] bytes.now) }
 {
     let mut rest = bytes;
     for class in 0..count {
         let (region, after) = mark_in(alloc, version, program, class, rest)?;
-        regions.push(region)?;
+        add_region(class, region, regions)?;
         rest = after;
     }
     Ok(rest)
@@ -104,15 +126,19 @@ fn push_marks_at<'a>(
 fn marks_at<'a>(
     alloc: Global,
     version: Version,
-    program: &Program,
+    program: &mut Program,
     bytes: &'a [u8],
-) -> Result<(ImageRegions, &'a [u8]), MarksFault>
-    ensures { GivesIn (λ x. (x.0, x.1.now)) result (marks_at version program.now.family bytes.now) }
+) -> Result<(Regions, &'a [u8]), MarksFault>
+    ensures { ReadsIn HoldsRegions (λ x. (environment_of x.0, x.1.now)) program.old program.new result
+        (marks_at version program.old.family bytes.now) }
 {
-    let count = program.family().classes().len() as u32;
-    let mut regions = Vec::new(alloc);
-    let rest = push_marks_at(alloc, version, program, count, &mut regions, bytes)?;
-    Ok((ImageRegions::of_vec(regions), rest))
+    let _classes = program.classes();
+    let count = program.given_count();
+    let mut regions = Regions::none(alloc);
+    match push_marks_at(alloc, version, program, count, &mut regions, bytes) {
+        Ok(rest) => Ok((regions, rest)),
+        Err(fault) => Err(fault),
+    }
 }
 
 /// Reads the marks and regions of all classes of a program at the front of some bytes, and answers what stands after
@@ -123,11 +149,12 @@ fn marks_at<'a>(
 pub(crate) fn read_marks<'a>(
     alloc: Global,
     version: Version,
-    program: &Program,
+    program: &mut Program,
     bytes: &'a [u8],
-) -> Result<(ImageRegions, &'a [u8]), MarksFault>
-    ensures text { IfOk result (λ x. Begins (AreMarks version program.now.family) bytes.now x.0 x.1.now) }
-    ensures fault { IfErr result (λ fault. IsMarksFault (MarksFail version program.now.family bytes.now) fault) }
+) -> Result<(Regions, &'a [u8]), MarksFault>
+    ensures marks { IfOk result (λ x. AreHeld version program.old program.new bytes.now x.0 x.1.now) }
+    ensures fault { IfErr result (λ fault. IsMarksFault (MarksFail version program.old.family bytes.now) fault) }
+    ensures family { program.new.family ≡ program.old.family }
 {
     let _classes = program.family().classes();
     marks_at(alloc, version, program, bytes)

@@ -1,102 +1,131 @@
 //! Whether regions name objects alone that there are.
 
-ghost use Rattle.std.specs.Prelude.{◌≡◌, true, is_some, MatchOption};
+ghost use Rattle.std.specs.Prelude.{◌≡◌, length, MatchOption};
 ghost use Rattle.std.specs.Bool.{Decides};
-ghost use Rattle.std.specs.List.{All};
-ghost use Rattle.image_format.specs.Objects.{object_of};
-ghost use Rattle.image_format.specs.Images.{IsThere, NamesObjects};
-ghost use Rattle.image_parser.specs.reading.Reaching.{AllRise};
-ghost use Rattle.image_parser.specs.Nameless.{MarkNames, SlotsAreThere, IsNameless};
+ghost use Rattle.vm_state.specs.Pools.{pool_by};
+ghost use Rattle.vm_state.specs.Statics.{field_in};
+ghost use Rattle.program.specs.Tables.{statics_in};
+ghost use Rattle.image_parser.specs.reading.Named.{AllBelow, ClassNames, FieldsName, IsFirstNameless, KeptNames};
+ghost use Rattle.image_parser.specs.reading.Named.{NamesThere, PoolNames, RegionNames, SlotNames, SlotsName, is_there};
 
-use crate::reaching::{objects_of, place_of};
-use image_format::object::KeptObject;
-use image_format::region::ImageRegion;
-use image_format::slots::{ImageSlots, SeenSlots};
-use image_format::value::ImageValue;
+use object_graph::static_count;
+use program::Program;
+use region_shape::regions::{Region, Regions};
+use vm_state::classes::Fields;
+use vm_state::heap::Row;
+use vm_state::object::Slots;
+use vm_state::value::Value;
 
 /// Whether there is an object of a class and a number.
-fn has_object(regions: &[Option<ImageRegion>], class: u32, number: u32) -> bool
-    requires { AllRise regions.now }
-    ensures { Decides result (is_some (object_of regions.now class number) ≡ true) }
+fn has_object(regions: &Regions, class: u32, number: u64) -> bool
+    ensures { result ≡ is_there regions.now class number }
 {
-    place_of(objects_of(regions, class), number).is_some()
+    match regions.get(class) {
+        Some(region) => region.objects.object(number).is_some(),
+        None => false,
+    }
 }
 
 /// Whether the object that a value names is there.
-fn is_there(regions: &[Option<ImageRegion>], value: &ImageValue) -> bool
-    requires { AllRise regions.now }
-    ensures { Decides result (IsThere regions.now value.now) }
+fn names_there(regions: &Regions, value: Value) -> bool
+    ensures { Decides result (NamesThere regions.now value) }
 {
     match value {
-        ImageValue::Object { class, number } => has_object(regions, *class, *number),
+        Value::OfClass(class, number) => has_object(regions, class, number),
         _ => true,
     }
 }
 
-/// Whether the objects that some values name are there.
-fn are_there(regions: &[Option<ImageRegion>], values: &[ImageValue]) -> bool
-    requires { AllRise regions.now }
-    ensures { Decides result (All (IsThere regions.now) values.now) }
+/// Whether the object that the value in a slot names is there.
+fn slot_names(regions: &Regions, slots: &Slots, slot: usize) -> bool
+    ensures { Decides result (SlotNames regions.now slots.now slot) }
 {
-    for value in values {
-        if !is_there(regions, value) {
+    match slots.get(slot) {
+        Some(value) => names_there(regions, value),
+        None => true,
+    }
+}
+
+/// Whether the objects that the values in slots name are there.
+fn values_name(regions: &Regions, slots: &Slots) -> bool
+    ensures { Decides result (SlotsName regions.now slots.now) }
+{
+    for slot in 0..slots.len() {
+        if !slot_names(regions, slots, slot) {
             return false;
         }
     }
     true
 }
 
-/// Whether the objects that slots name are there. Numbers are passed over at once.
-fn are_there_in(regions: &[Option<ImageRegion>], slots: &ImageSlots) -> bool
-    requires { AllRise regions.now }
-    ensures { Decides result (All (IsThere regions.now) slots.now) }
+/// Whether the objects that slots name are there. Slots of numbers alone are passed over at once.
+fn slots_name(regions: &Regions, slots: &Slots) -> bool
+    ensures { Decides result (SlotsName regions.now slots.now) }
 {
-    match slots.seen() {
-        SeenSlots::Numbers(_) => true,
-        SeenSlots::Values(values) => are_there(regions, values),
+    if slots.are_numbers() {
+        return true;
+    }
+    values_name(regions, slots)
+}
+
+/// Whether those are that the object at a place of a row names.
+fn kept_names(regions: &Regions, row: &Row, place: usize) -> bool
+    ensures { Decides result (KeptNames regions.now row.now place) }
+{
+    match row.at(place) {
+        Some((_, kept)) => slots_name(regions, &kept.slots),
+        None => true,
     }
 }
 
-/// Whether those that the slots of some objects name are.
-fn slots_are_there(regions: &[Option<ImageRegion>], objects: &[KeptObject]) -> bool
-    requires { AllRise regions.now }
-    ensures { Decides result (All (SlotsAreThere regions.now) objects.now) }
+/// Whether those are that the objects of a row name.
+fn row_names(regions: &Regions, row: &Row) -> bool
+    ensures { Decides result (PoolNames regions.now (pool_by row.now)) }
 {
-    for kept in objects {
-        if !are_there_in(regions, &kept.object.slots) {
+    for place in 0..row.len() {
+        if !kept_names(regions, row, place) {
             return false;
         }
     }
     true
 }
 
-/// Whether a region names objects alone that there are.
-fn names_objects(regions: &[Option<ImageRegion>], region: &ImageRegion) -> bool
-    requires { AllRise regions.now }
-    ensures { Decides result (NamesObjects regions.now region.now) }
+/// Whether those are that the first so many static fields name.
+fn fields_name(regions: &Regions, fields: &Fields, count: u32) -> bool
+    ensures { Decides result (FieldsName regions.now (field_in fields.now) count) }
 {
-    are_there(regions, region.statics.as_slice())
-        && slots_are_there(regions, region.objects.as_slice())
+    for field in 0..count {
+        if !names_there(regions, fields.get(field)) {
+            return false;
+        }
+    }
+    true
+}
+
+/// Whether a region of a class with so many static fields names objects alone that there are.
+fn region_names(regions: &Regions, region: &Region, count: u32) -> bool
+    ensures { Decides result (RegionNames regions.now region.now count) }
+{
+    fields_name(regions, &region.fields, count) && row_names(regions, &region.objects)
 }
 
 /// Whether the region of a class, if it has one, names objects alone that there are.
-fn mark_names(regions: &[Option<ImageRegion>], mark: &Option<ImageRegion>) -> bool
-    requires { AllRise regions.now }
-    ensures { Decides result (MarkNames regions.now mark.now) }
+fn class_names(program: &Program, regions: &Regions, class: u32) -> bool
+    ensures { Decides result (ClassNames program.now regions.now class) }
 {
-    match mark {
+    match regions.get(class) {
+        Some(region) => region_names(regions, region, static_count(program, class)),
         None => true,
-        Some(region) => names_objects(regions, region),
     }
 }
 
 /// The least class whose region names an object that there is not.
-pub(crate) fn nameless(regions: &[Option<ImageRegion>]) -> Option<usize>
-    requires { AllRise regions.now }
-    ensures { MatchOption result (All (MarkNames regions.now) regions.now) (IsNameless regions.now) }
+pub(crate) fn nameless(program: &Program, regions: &Regions) -> Option<u32>
+    ensures { MatchOption result (AllBelow (ClassNames program.now regions.now) (length program.now.classes))
+        (IsFirstNameless program.now regions.now) }
 {
-    for (class, mark) in regions.iter().enumerate() {
-        if !mark_names(regions, mark) {
+    for class in 0..program.given_count() {
+        if !class_names(program, regions, class) {
             return Some(class);
         }
     }

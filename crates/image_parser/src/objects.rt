@@ -1,31 +1,36 @@
 //! Reads objects.
 
-ghost use Rattle.std.specs.Prelude.{◌≡◌, [], ◌<◌, ◌^◌, length};
+ghost use Rattle.std.specs.Prelude.{◌≡◌, [], ◌<◌, ◌^◌, length, IfOk};
+ghost use Rattle.classfile.specs.Units.{IsModifiedUtf8};
+ghost use Rattle.built_in.specs.declared.class_id.ElementType.{ElementType as Element};
+ghost use Rattle.built_in.specs.declared.class_id.ElementType.TheVariants.{Unknown};
 ghost use Rattle.loading.specs.Families.{IsFamily};
+ghost use Rattle.image_format.specs.Elements.{kind_of_elements};
 ghost use Rattle.image_format.specs.Shapes.{has_objects, has_values};
-ghost use Rattle.image_parser.specs.reading.Results.{Gives, number_at, each_at};
-ghost use Rattle.image_parser.specs.reading.Values.{value_at};
 ghost use Rattle.image_parser.specs.reading.ClassNames.{class_of};
+ghost use Rattle.image_parser.specs.reading.Held.{AddsStrings, HoldsElement, HoldsObject, HoldsType, HoldsValues};
+ghost use Rattle.image_parser.specs.reading.Objects.{array_at, class_at, class_for, count_at, elements_at, form_at};
+ghost use Rattle.image_parser.specs.reading.Objects.{formed_at, good_class, is_form, known_if, known_slots_at, may_be};
+ghost use Rattle.image_parser.specs.reading.Objects.{name_at, object_at, unknown_if};
+ghost use Rattle.image_parser.specs.reading.Reads.{Makes, Reads};
+ghost use Rattle.image_parser.specs.reading.Results.{Gives, each_at, number_at};
 ghost use Rattle.image_parser.specs.reading.Unknown.{unknown_of};
-ghost use Rattle.image_parser.specs.reading.Objects.{is_form, may_be, good_class, known_if, unknown_if};
-ghost use Rattle.image_parser.specs.reading.Objects.{class_if, class_for, name_at, class_at, known_slots_at};
-ghost use Rattle.image_parser.specs.reading.Objects.{elements_at, count_at, array_at, slots_at, formed_at, form_at};
-ghost use Rattle.image_parser.specs.reading.Objects.{object_at};
+ghost use Rattle.image_parser.specs.reading.Values.{value_at};
 
 use crate::fault::RegionFault;
 use crate::numbers::{run_at, u8_at, u16_at, u32_at};
 use crate::unknown::unknown_of;
 use crate::values::{push_elements_at, push_values_at};
-use built_in::class_id::{BuiltIn, ClassId};
+use built_in::class_id::{ArrayType, BuiltIn, ClassId, ElementType};
+use classfile::ClassName;
 use image_format::elements::kind_of_elements;
-use image_format::object::{ImageClass, ImageObject, UnknownName};
-use image_format::slots::ImageSlots;
-use image_format::value::ImageValues;
 use loading::class_named;
 use loading::family::Family;
 use program::Program;
 use program::runtime_constant::FieldKind;
-use std::alloc::Global;
+use std::alloc::{AllocError, Global};
+use vm_state::object::{Monitor, Object, Slots};
+use vm_state::value::Value;
 
 /// The class of a name.
 fn class_of(family: &Family, name: &[u8]) -> Option<ClassId>
@@ -75,48 +80,90 @@ fn may_be(program: &Program, class: ClassId) -> bool
 }
 
 /// A given or built-in class or an array class, if there can be objects of this form.
-fn known_if(program: &Program, form: u8, class: ClassId) -> Result<ImageClass, RegionFault>
-    ensures { Gives (λ x. x) result (known_if program.now.family form class) }
+fn known_if(program: &Program, form: u8, class: ClassId) -> Result<ClassId, RegionFault>
+    ensures { Makes HoldsType program.now program.now result (known_if program.now.family form class) }
 {
     if is_form(form, class) && may_be(program, class) {
-        Ok(ImageClass::Known(class))
+        Ok(class)
     } else {
         Err(RegionFault::Shape)
     }
 }
 
-/// An array class whose elements are of a class that is neither given nor built in.
-fn unknown_if(alloc: Global, form: u8, name: &[u8]) -> Result<ImageClass, RegionFault>
-    ensures { Gives (λ x. x) result (unknown_if form (unknown_of name.now)) }
+/// An element type that is neither given nor built in, by the number of its name among the program's strings.
+fn unknown_element(
+    alloc: Global,
+    program: &mut Program,
+    name: &[u8],
+) -> Result<ElementType, AllocError>
+    requires modified { IsModifiedUtf8 name.now }
+    requires few { length name.now < 2 ^ 16 }
+    ensures holds { IfOk result (HoldsElement program.new.strings name.now) }
+    ensures adds { AddsStrings program.old program.new }
+    ensures same { (element : Element) → HoldsElement program.old.strings name.now element
+        → program.new ≡ program.old }
 {
-    match unknown_of(alloc, name)? {
-        Some((dimensions, class)) if form == 1 => {
-            let name = UnknownName::of_vec(Vec::from_slice(alloc, class)?);
-            Ok(ImageClass::UnknownArray { dimensions, name })
-        }
-        _ => Err(RegionFault::Shape),
+    let name = ClassName::from_modified_utf8(alloc, name)?;
+    let number = program.add_string(alloc, name.units())?;
+    numbered_element(number)
+}
+
+/// An element type that is neither given nor built in, whose name has this number. No program has so many strings that
+/// 32 bits do not count them.
+fn numbered_element(number: usize) -> Result<ElementType, AllocError>
+    ensures { IfOk result (λ element. element ≡ Unknown number) }
+{
+    match u32::try_from(number) {
+        Ok(number) => Ok(ElementType::Unknown(number)),
+        Err(_) => Err(AllocError),
     }
+}
+
+/// An array class whose elements are of a class that is neither given nor built in.
+fn unknown_if(
+    alloc: Global,
+    program: &mut Program,
+    form: u8,
+    name: &[u8],
+) -> Result<ClassId, RegionFault>
+    requires few { length name.now < 2 ^ 16 }
+    ensures { Makes HoldsType program.old program.new result (unknown_if form (unknown_of name.now)) }
+{
+    let found = unknown_of(alloc, name)?;
+    let Some((dimensions, class)) = found else {
+        return Err(RegionFault::Shape);
+    };
+    if form != 1 {
+        return Err(RegionFault::Shape);
+    }
+    let element = unknown_element(alloc, program, class)?;
+    Ok(ClassId::Array(ArrayType {
+        dimensions,
+        element,
+    }))
 }
 
 /// The class of a name, where there can be objects of it of this form.
 fn class_for(
     alloc: Global,
-    program: &Program,
+    program: &mut Program,
     form: u8,
     name: &[u8],
-) -> Result<ImageClass, RegionFault>
-    ensures { Gives (λ x. x) result (class_for program.now.family form name.now) }
+) -> Result<ClassId, RegionFault>
+    requires few { length name.now < 2 ^ 16 }
+    ensures { Makes HoldsType program.old program.new result (class_for program.old.family form name.now) }
 {
     match class_of(program.family(), name) {
         Some(class) => known_if(program, form, class),
-        None => unknown_if(alloc, form, name),
+        None => unknown_if(alloc, program, form, name),
     }
 }
 
 /// The count of the bytes of a name, and these.
 #[tactic(auto, unfolding(crate::specs::reading::Objects::name_at))]
 fn name_at(bytes: &[u8]) -> Result<(&[u8], &[u8]), RegionFault>
-    ensures { Gives (λ x. (x.0.now, x.1.now)) result (name_at bytes.now) }
+    ensures name { Gives (λ x. (x.0.now, x.1.now)) result (name_at bytes.now) }
+    ensures few { IfOk result (λ x. length x.0.now < 2 ^ 16) }
 {
     let (count, rest) = u16_at(bytes)?;
     run_at(usize::from(count), rest)
@@ -126,11 +173,12 @@ fn name_at(bytes: &[u8]) -> Result<(&[u8], &[u8]), RegionFault>
 #[tactic(auto, unfolding(crate::specs::reading::Objects::class_at))]
 fn class_at<'a>(
     alloc: Global,
-    program: &Program,
+    program: &mut Program,
     form: u8,
     bytes: &'a [u8],
-) -> Result<(ImageClass, &'a [u8]), RegionFault>
-    ensures { Gives (λ x. (x.0, x.1.now)) result (class_at program.now.family form bytes.now) }
+) -> Result<(ClassId, &'a [u8]), RegionFault>
+    ensures { Reads HoldsType (λ x. (x.0, x.1.now)) program.old program.new result
+        (class_at program.old.family form bytes.now) }
 {
     let (name, rest) = name_at(bytes)?;
     let class = class_for(alloc, program, form, name)?;
@@ -152,105 +200,106 @@ fn count_at(bytes: &[u8]) -> Result<(u32, &[u8]), RegionFault>
 
 /// A number of elements. No room is asked for beyond the bytes that are left.
 #[tactic(auto, unfolding(crate::specs::reading::Objects::elements_at))]
-fn elements_at(
+fn elements_at<'a>(
     alloc: Global,
-    kind: FieldKind,
+    program: &mut Program,
+    array: ArrayType,
     count: u32,
-    bytes: &[u8],
-) -> Result<(ImageSlots, &[u8]), RegionFault>
-    ensures { Gives (λ x. (x.0, x.1.now)) result (elements_at kind count bytes.now) }
+    bytes: &'a [u8],
+) -> Result<(Slots, &'a [u8]), RegionFault>
+    ensures { Reads HoldsValues (λ x. (x.0, x.1.now)) program.old program.new result
+        (elements_at (kind_of_elements array) count bytes.now) }
 {
-    let mut slots = ImageSlots::with_room(alloc, kind, (count as usize).min(bytes.len()))?;
-    let rest = push_elements_at(alloc, kind, count, &mut slots, bytes)?;
+    let kind = kind_of_elements(array);
+    let mut slots = Slots::with_room(alloc, array, (count as usize).min(bytes.len()))?;
+    let rest = push_elements_at(alloc, program, kind, count, &mut slots, bytes)?;
     Ok((slots, rest))
 }
 
 /// The elements of an array.
 #[tactic(auto, unfolding(crate::specs::reading::Objects::array_at))]
-fn array_at(
+fn array_at<'a>(
     alloc: Global,
-    kind: FieldKind,
-    bytes: &[u8],
-) -> Result<(ImageSlots, &[u8]), RegionFault>
-    ensures { Gives (λ x. (x.0, x.1.now)) result (array_at kind bytes.now) }
+    program: &mut Program,
+    array: ArrayType,
+    bytes: &'a [u8],
+) -> Result<(Slots, &'a [u8]), RegionFault>
+    ensures { Reads HoldsValues (λ x. (x.0, x.1.now)) program.old program.new result
+        (array_at (kind_of_elements array) bytes.now) }
 {
     let (count, rest) = count_at(bytes)?;
-    elements_at(alloc, kind, count, rest)
+    elements_at(alloc, program, array, count, rest)
 }
 
 /// A value for each of these kinds.
 pub(crate) fn values_at<'a>(
     alloc: Global,
+    program: &mut Program,
     kinds: &[FieldKind],
     bytes: &'a [u8],
-) -> Result<(ImageValues, &'a [u8]), RegionFault>
-    ensures { Gives (λ x. (x.0, x.1.now)) result (each_at value_at kinds.now [] bytes.now) }
+) -> Result<(Vec<Value>, &'a [u8]), RegionFault>
+    ensures { Reads HoldsValues (λ x. (x.0.items, x.1.now)) program.old program.new result
+        (each_at value_at kinds.now [] bytes.now) }
 {
     let mut values = Vec::with_capacity(alloc, kinds.len())?;
-    let rest = push_values_at(alloc, kinds, &mut values, bytes)?;
-    Ok((ImageValues::of_vec(values), rest))
+    let rest = push_values_at(alloc, program, kinds, &mut values, bytes)?;
+    Ok((values, rest))
 }
 
 /// A slot for each of these kinds.
 fn instance_at<'a>(
     alloc: Global,
+    program: &mut Program,
     kinds: &[FieldKind],
     bytes: &'a [u8],
-) -> Result<(ImageSlots, &'a [u8]), RegionFault>
-    ensures { Gives (λ x. (x.0, x.1.now)) result (each_at value_at kinds.now [] bytes.now) }
+) -> Result<(Slots, &'a [u8]), RegionFault>
+    ensures { Reads HoldsValues (λ x. (x.0, x.1.now)) program.old program.new result
+        (each_at value_at kinds.now [] bytes.now) }
 {
-    let mut values = Vec::with_capacity(alloc, kinds.len())?;
-    let rest = push_values_at(alloc, kinds, &mut values, bytes)?;
-    Ok((ImageSlots::of_vec(values), rest))
+    let (values, rest) = values_at(alloc, program, kinds, bytes)?;
+    let slots = Slots::packed(alloc, values.as_slice())?;
+    Ok((slots, rest))
 }
 
-/// What follows the name of a class.
+/// The slots of an object of a class.
 fn slots_at<'a>(
     alloc: Global,
-    program: &Program,
-    class: &ImageClass,
-    bytes: &'a [u8],
-) -> Result<(ImageSlots, &'a [u8]), RegionFault>
-    ensures { Gives (λ x. (x.0, x.1.now)) result (slots_at program.now.family class.now bytes.now) }
-{
-    match class {
-        ImageClass::Known(class) => known_slots_at(alloc, program, *class, bytes),
-        ImageClass::UnknownArray { .. } => array_at(alloc, FieldKind::Reference, bytes),
-    }
-}
-
-/// The slots of an object of a class that the program knows.
-fn known_slots_at<'a>(
-    alloc: Global,
-    program: &Program,
+    program: &mut Program,
     class: ClassId,
     bytes: &'a [u8],
-) -> Result<(ImageSlots, &'a [u8]), RegionFault>
-    ensures { Gives (λ x. (x.0, x.1.now)) result (known_slots_at program.now.family class bytes.now) }
+) -> Result<(Slots, &'a [u8]), RegionFault>
+    ensures { Reads HoldsValues (λ x. (x.0, x.1.now)) program.old program.new result
+        (known_slots_at program.old.family class bytes.now) }
 {
     match class {
         ClassId::Given(number) => {
             let kinds = program.slot_kinds(alloc, number)?;
-            instance_at(alloc, &kinds, bytes)
+            instance_at(alloc, program, &kinds, bytes)
         }
-        ClassId::BuiltIn(_) => Ok((ImageSlots::none(alloc), bytes)),
-        ClassId::Array(array) => array_at(alloc, kind_of_elements(array), bytes),
+        ClassId::BuiltIn(_) => Ok((Slots::none(alloc), bytes)),
+        ClassId::Array(array) => array_at(alloc, program, array, bytes),
     }
 }
 
-/// The class and the slots of an object of this form.
+/// The class and the slots of an object of this form. Its monitor is free.
 #[tactic(auto, unfolding(crate::specs::reading::Objects::formed_at))]
 fn formed_at<'a>(
     alloc: Global,
-    program: &Program,
+    program: &mut Program,
     form: u8,
     bytes: &'a [u8],
-) -> Result<(ImageObject, &'a [u8]), RegionFault>
-    ensures { Gives (λ x. (x.0, x.1.now)) result (formed_at program.now.family form bytes.now) }
+) -> Result<(Object, &'a [u8]), RegionFault>
+    ensures { Reads HoldsObject (λ x. (x.0, x.1.now)) program.old program.new result
+        (formed_at program.old.family form bytes.now) }
 {
     let (class, rest) = class_at(alloc, program, form, bytes)?;
-    let (slots, rest) = slots_at(alloc, program, &class, rest)?;
-    Ok((ImageObject { class, slots }, rest))
+    let (slots, rest) = slots_at(alloc, program, class, rest)?;
+    let object = Object {
+        class,
+        slots,
+        monitor: Monitor::Free,
+    };
+    Ok((object, rest))
 }
 
 /// The form of an object: 0 for an instance of a class, 1 for an array.
@@ -270,10 +319,11 @@ fn form_at(bytes: &[u8]) -> Result<(u8, &[u8]), RegionFault>
 #[tactic(auto, unfolding(crate::specs::reading::Objects::object_at))]
 pub(crate) fn object_at<'a>(
     alloc: Global,
-    program: &Program,
+    program: &mut Program,
     bytes: &'a [u8],
-) -> Result<(ImageObject, &'a [u8]), RegionFault>
-    ensures { Gives (λ x. (x.0, x.1.now)) result (object_at program.now.family bytes.now) }
+) -> Result<(Object, &'a [u8]), RegionFault>
+    ensures { Reads HoldsObject (λ x. (x.0, x.1.now)) program.old program.new result
+        (object_at program.old.family bytes.now) }
 {
     let (form, rest) = form_at(bytes)?;
     formed_at(alloc, program, form, rest)

@@ -30,20 +30,19 @@ use Rattle.region_shape.specs.Shapes.{HasObjects, SuitsField}
 use Rattle.region_shape.specs.Texts.{HasText}
 use Rattle.region_shape.specs.Wholes.{AreWhole}
 use Rattle.object_graph.specs.Images.{AreSmall}
-use Rattle.image_format.specs.declared.object.ImageObject.{ImageObject}
-use Rattle.image_format.specs.declared.region.ImageRegion.{ImageRegion}
-use Rattle.image_format.specs.declared.value.ImageValue.{ImageValue}
-use Rattle.image_format.specs.declared.value.ImageValue.TheVariants as values
+use Rattle.image_format.specs.Regions.{ImageObject, ImageRegion}
+use Rattle.image_format.specs.Values.{ImageValue}
+use Rattle.image_format.specs.Values as values
 use Rattle.image_format.specs.Objects.{region_in}
 use Rattle.image_format.specs.Told.{told_array, told_class, told_value, told_object, told_objects}
 use Rattle.image_format.specs.Told.{told_fields, told_region, told_regions}
 use Rattle.image_writer.specs.steps.Sizes.{HasFiles}
 use Rattle.image_writer.proofs.FilesLemmas.{text_fits, units_are}
 use Rattle.image_format.proofs.RowsLemmas.{told_at}
-use Rattle.image_writer.proofs.ProgramsLemmas.{class_count, static_count}
-use Rattle.image_reader.specs.steps.Held.{HoldsValue, HoldsValues, HoldsField, HoldsFields, HoldsText, HoldsType}
-use Rattle.image_reader.specs.steps.Held.{HoldsObject, HoldsNumber, HoldsObjects, HoldsRegion, HoldsClass}
-use Rattle.image_reader.specs.steps.Held.{HoldsRegions}
+use Rattle.object_graph.proofs.ProgramsLemmas.{class_count, static_count}
+use Rattle.image_parser.specs.reading.Held.{HoldsValue, HoldsValues, HoldsField, HoldsFields, HoldsText, HoldsType}
+use Rattle.image_parser.specs.reading.Held.{HoldsObject, HoldsNumber, HoldsObjects, HoldsRegion, HoldsClass}
+use Rattle.image_parser.specs.reading.Held.{HoldsRegions}
 
 module _ (P : Tables) (has : HasFiles P) where
   abbrev S : List (List ℕ)

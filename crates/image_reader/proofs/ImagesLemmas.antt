@@ -1,44 +1,38 @@
--- The image of what a text says.
-use Rattle.std.proofs.Common.{◌≡◌, List, Option, Some, None, refl, sym, subst}
-use Rattle.loading.specs.Families.{Family}
+-- The image of regions that hold what a text tells of them.
+use Rattle.std.proofs.Common.{◌≡◌, ◌∙◌, inl, inr, ℕ, ◌<◌, ◌≤◌, List, length, Option, Some, None, refl, sym, ap, arith}
+use Rattle.vm_state.specs.SharedState.{Region}
 use Rattle.semantics.specs.Quiet.{Environment}
 use Rattle.program.specs.Programs.{IsProgram}
 use Rattle.program.specs.Tables.{Tables}
 use Rattle.region_shape.specs.Wholes.{AreWhole}
 use Rattle.object_graph.specs.Cuts.{AreReached}
 use Rattle.object_graph.specs.Images.{AreSmall}
-use Rattle.image_format.specs.declared.region.ImageRegion.{ImageRegion}
+use Rattle.object_graph.proofs.ProgramsLemmas.{class_count}
+use Rattle.image_format.specs.declared.version.Version.{Version}
 use Rattle.image_format.specs.declared.version.Version.TheVariants as versions
-use Rattle.image_format.specs.Images.{AreRegions}
-use Rattle.image_format.specs.Objects.{region_in}
+use Rattle.image_format.specs.Images.{AreRegions, NeedsAll}
+use Rattle.image_format.specs.Reached.{AreReached as AreToldReached}
 use Rattle.image_format.specs.Told.{told_regions}
-use Rattle.image_reader.specs.steps.Held.{AddsStrings, HaveShape, MayHaveShape, HoldsRegions}
-use Rattle.image_reader.proofs.ClassesLemmas.{place_of}
-use Rattle.image_writer.proofs.ProgramsLemmas.{class_count, static_count}
-use Rattle.image_reader.proofs.ToldLemmas.{regions_told}
-use Rattle.image_reader.proofs.WholeLemmas.{regions_reached, regions_whole, regions_small}
+use Rattle.object_graph.proofs.ToldReachedLemmas.{all_again}
+use Rattle.image_parser.specs.reading.Held.{HoldsRegions}
+use Rattle.image_parser.proofs.WholeLemmas.{regions_small, regions_whole}
 
-module _ (P : Tables) (told : List (Option ImageRegion)) (fits : AreRegions versions.Two P.family told) where
-  pub shaped : HaveShape P.family told
-  shaped c = by (region_in told c) refl
-    where
-      by : (o : Option ImageRegion) → region_in told c ≡ o → MayHaveShape P.family c o
-      by None is = tt
-      by (Some region) is = fits.shapes c region (place_of told c region is)
+module _ (version : Version) (Q : Tables) (is : IsProgram Q) (env : Environment)
+    (fits : AreRegions version Q.family (told_regions Q env))
+    (holds : HoldsRegions Q.strings (told_regions Q env) env) where
+  pub whole : AreWhole Q env
+  whole = regions_whole version Q (told_regions Q env) env fits holds
 
-  module _ (Q : Tables) (is : IsProgram Q) (adds : AddsStrings P Q) (env : Environment)
-      (holds : HoldsRegions Q.strings told env) where
-    fit : AreRegions versions.Two Q.family told
-    fit = subst (λ (family : Family). AreRegions versions.Two family told) (sym adds.family) fits
+  pub small : AreSmall Q env
+  small = regions_small version Q (told_regions Q env) env fits holds (class_count Q is)
 
-    pub whole : AreWhole Q env
-    whole = regions_whole Q told env fit holds
+  all_needed : (v : Version) → v ≡ versions.Two → NeedsAll v (told_regions Q env)
+      → (c : ℕ) → AreToldReached (told_regions Q env) c
+  all_needed versions.One same needed = absurd cc
+  all_needed versions.Two same needed = needed
 
-    pub reached : AreReached Q env
-    reached = regions_reached Q told env fit holds (static_count Q is)
-
-    pub small : AreSmall Q env
-    small = regions_small Q told env fit holds (class_count Q is)
-
-    pub told_again : told_regions Q env ≡ told
-    told_again = regions_told Q (static_count Q is) told env fit holds
+  pub reached : version ≡ versions.Two → AreReached Q env
+  reached same =
+      all_again Q env (λ c r here. (whole.shape c r here).no_more)
+      (λ c r here. let low = small.classes c r here in omega (arith, low, class_count Q is))
+      (all_needed version same fits.needed)

@@ -1,11 +1,6 @@
 pub mod PlacingLemmas
-pub mod ReferencesLemmas
-pub mod HeldLemmas
-pub mod ClassesLemmas
-pub mod ToldLemmas
-pub mod WholeLemmas
 pub mod ImagesLemmas
-pub mod SameLemmas
 pub mod HeldAgainLemmas
 pub mod ReadAgainLemmas
 pub mod OldTextsLemmas
+pub mod RenewedLemmas

@@ -10,14 +10,13 @@ use Rattle.semantics.specs.Quiet.{Environment}
 use Rattle.program.specs.Programs.{IsProgram}
 use Rattle.program.specs.Tables.{Tables, statics_in}
 use Rattle.region_shape.specs.Wholes.{AreWhole}
-use Rattle.evaluator.specs.declared.regions.Region.{Region as Held}
-use Rattle.evaluator.specs.Regions.{environment_of}
+use Rattle.region_shape.specs.declared.regions.Region.{Region as Held}
+use Rattle.region_shape.specs.Regions.{environment_of}
 use Rattle.object_graph.specs.declared.name_set.ObjectName.{ObjectName}
 use Rattle.object_graph.specs.Cuts.{IsCutAt, IsCutOf, IsCutRegion}
 use Rattle.object_graph.specs.Images.{AreSmall, ImageTables}
 use Rattle.object_graph.specs.Reached.{IsReached}
-use Rattle.image_format.specs.declared.object.KeptObject.{KeptObject}
-use Rattle.image_format.specs.declared.region.ImageRegion.{ImageRegion}
+use Rattle.image_format.specs.Regions.{ImageRegion, KeptObject}
 use Rattle.image_format.specs.declared.version.Version.TheVariants as versions
 use Rattle.image_format.specs.Images.{OldText, VersionText}
 use Rattle.image_format.specs.Reached.{IsDropped, kept_from, kept_in}
@@ -25,8 +24,8 @@ use Rattle.image_format.specs.Told.{told_fields, told_if, told_objects, told_reg
 use Rattle.image_format.proofs.DroppedLemmas.{keeps_of, keeps_reached}
 use Rattle.image_format.proofs.RowsLemmas.{told_from}
 use Rattle.image_writer.specs.ImageTexts.{told_of}
-use Rattle.image_writer.proofs.ProgramsLemmas.{class_count}
-use Rattle.image_writer.proofs.ReachedLemmas.{reached_told, reached_again}
+use Rattle.object_graph.proofs.ProgramsLemmas.{class_count}
+use Rattle.object_graph.proofs.ToldReachedLemmas.{reached_told, reached_again}
 
 module _ (P : Tables) (whole part : Environment)
     (no_more : (c : ℕ) (r : Region) → whole c ≡ Some r → (n : ℕ) → r.pool.count ≤ n → r.pool.at n ≡ None)

@@ -11,7 +11,7 @@ use Rattle.vm_state.specs.SharedTables.{SharedTables}
 use Rattle.vm_state.specs.Shares.{shared_of}
 use Rattle.machine.specs.Linked.{program_of}
 use Rattle.program.specs.Tables.{Tables}
-use Rattle.evaluator.specs.Regions.{environment_of}
+use Rattle.region_shape.specs.Regions.{environment_of}
 use Rattle.object_graph.specs.Images.{ImageTables, start_image, AreSmall}
 use Rattle.init_engine.specs.Starts.{StandForEntries, IsLazyShared, start_over}
 use Rattle.image_reader.specs.Starts.{IsImageStart}

@@ -3,8 +3,8 @@
 ghost use Rattle.std.specs.Prelude.{◌≡◌, List, ℕ, Option};
 ghost use Rattle.program.specs.Programs.{IsProgram};
 ghost use Rattle.region_shape.specs.Wholes.{AreWhole};
-ghost use Rattle.evaluator.specs.declared.regions.Region.{Region as Held};
-ghost use Rattle.evaluator.specs.Regions.{environment_of};
+ghost use Rattle.region_shape.specs.declared.regions.Region.{Region as Held};
+ghost use Rattle.region_shape.specs.Regions.{environment_of};
 ghost use Rattle.object_graph.specs.Cuts.{IsCutOf};
 ghost use Rattle.object_graph.specs.Images.{AreSmall, ImageTables};
 ghost use Rattle.image_format.specs.declared.version.Version.TheVariants.{One};

@@ -1,8 +1,6 @@
 //! Reads images, and starts runs from them.
 #![tactic(auto)]
 
-mod held_regions;
-mod held_values;
 pub mod laws;
 mod reading;
 mod start;

@@ -4,7 +4,7 @@ ghost use Rattle.std.specs.Prelude.{◌≡◌, ◌↔◌, ◌⊎◌, ◌<◌, []
 ghost use Rattle.std.specs.Prelude.{Err, IfErr, IfOk, OnOk};
 ghost use Rattle.vm_state.specs.Shares.{shared_of};
 ghost use Rattle.semantics.specs.Images.{with_image};
-ghost use Rattle.evaluator.specs.Regions.{environment_of};
+ghost use Rattle.region_shape.specs.Regions.{environment_of};
 ghost use Rattle.object_graph.specs.Images.{start_image};
 ghost use Rattle.init_engine.specs.Starts.{EntriesFail};
 ghost use Rattle.init_engine.specs.Turns.{world_of};

@@ -23,7 +23,7 @@ use Rattle.loading.specs.Families.{file_of}
 use Rattle.loading.specs.Names.{text_at}
 use Rattle.program.specs.Strings.{string_of, strings_of, all_strings, AreFirsts, IsText}
 use Rattle.program.specs.Tables.{Tables}
-use Rattle.image_format.proofs.NamesLemmas.{FitsUtf8, empty_fits, utf8_fits}
+use Rattle.image_format.proofs.NamesLemmas.{FitsUtf8, empty_fits, units_short, utf8_fits}
 use Rattle.image_writer.specs.steps.Sizes.{HasFiles}
 
 module _ (f : ClassFile) (is : IsClassFile f) where
@@ -40,29 +40,6 @@ module _ (f : ClassFile) (is : IsClassFile f) where
 
   strings_fit : All FitsUtf8 (strings_of f)
   strings_fit = those_fit f.constants
-
--- ---- a text has no more units than bytes
-
-unit_long : (u : ℕ) → 1 ≤ length (unit_text u)
-unit_long u = by (nat_lt 0 u && nat_lt u 128) (nat_lt u 2048)
-  where
-    by : (ascii wide : Bool) → 1 ≤ length (if ascii then u ∷ [] else
-        (if wide then (192 + u / 64) ∷ (128 + u % 64) ∷ [] else
-        (224 + u / 4096) ∷ (128 + u / 64 % 64) ∷ (128 + u % 64) ∷ []))
-    by true wide = omega arith
-    by false true = omega arith
-    by false false = omega arith
-
-pub units_short : (units : List ℕ) → length units ≤ length (units_text units)
-units_short [] = omega arith
-units_short (u ∷ us) =
-    omega (
-      arith,
-      ap length (flat_map-cons unit_text u us),
-      length-append (unit_text u) (units_text us),
-      unit_long u,
-      units_short us,
-    )
 
 is_text : (text : List ℕ) → FitsUtf8 text → IsText text
 is_text text (short, modified) = record {

@@ -2,7 +2,5 @@ pub mod TextLemmas
 pub mod PlacedLemmas
 pub mod FilesLemmas
 pub mod SizesLemmas
-pub mod ProgramsLemmas
 pub mod SuitsLemmas
-pub mod ReachedLemmas
 pub mod RegionsLemmas

@@ -26,8 +26,7 @@ use Rattle.region_shape.specs.Wholes.{AreWhole}
 use Rattle.object_graph.specs.Cuts.{AreReached}
 use Rattle.object_graph.specs.Images.{AreSmall}
 use Rattle.object_graph.specs.Reached.{object_among}
-use Rattle.image_format.specs.declared.object.KeptObject.{KeptObject}
-use Rattle.image_format.specs.declared.region.ImageRegion.{ImageRegion}
+use Rattle.image_format.specs.Regions.{ImageRegion, KeptObject}
 use Rattle.image_format.specs.Images.{AreRegions, AreClassFiles, AreShort, ImageText}
 use Rattle.program.specs.Programs.{files_of}
 use Rattle.image_format.specs.Images.{IsThere, NamesObjects}
@@ -38,10 +37,10 @@ use Rattle.image_format.specs.Told.{told_value, told_object, told_region, told_r
 use Rattle.image_format.specs.Texts.{image_text}
 use Rattle.image_writer.specs.steps.Fits.{ClassFits}
 use Rattle.image_writer.specs.steps.Sizes.{HasFiles}
-use Rattle.image_writer.proofs.ProgramsLemmas.{class_count, static_count}
+use Rattle.object_graph.proofs.ProgramsLemmas.{class_count, static_count}
 use Rattle.image_writer.proofs.SizesLemmas.{region_sized}
 use Rattle.image_format.proofs.RowsLemmas.{numbered_told, all_told}
-use Rattle.image_writer.proofs.ReachedLemmas.{told_count, told_of_class, told_object_of, told_reached}
+use Rattle.object_graph.proofs.ToldReachedLemmas.{told_count, told_of_class, told_reached, told_some}
 use Rattle.image_writer.proofs.SuitsLemmas.{fields_suit, object_told, value_suits}
 
 module _ (P : Tables) (env : Environment) (has : HasFiles P) (whole : AreWhole P env) (small : AreSmall P env)
@@ -60,13 +59,6 @@ module _ (P : Tables) (env : Environment) (has : HasFiles P) (whole : AreWhole P
 
   count : length told ≡ length P.family
   count = told_count P env no_more low
-
-  pub told_some : (c n : ℕ) → is_some (object_of told c n) ≡ is_some (object_among (env c) n)
-  told_some c n = ap is_some (told_object_of P env no_more low c n) ∙ same (object_among (env c) n)
-    where
-      same : (o : Option Object) → is_some (option_map (told_object P.strings) o) ≡ is_some o
-      same None = refl
-      same (Some o) = refl
 
   module _ (c : ℕ) (r : Region) (here : env c ≡ Some r) where
     -- ---- shape
@@ -111,7 +103,7 @@ module _ (P : Tables) (env : Environment) (has : HasFiles P) (whole : AreWhole P
     -- ---- names
 
     seen : (d n : ℕ) → is_some (object_of told d n) ≡ is_held (pool_seen env c r (Class d)) n
-    seen d n = told_some d n ∙ by (tested (d == c))
+    seen d n = told_some P env no_more low d n ∙ by (tested (d == c))
       where
         by : ((d == c) ≡ true) ⊎ ((d == c) ≡ false)
             → is_some (object_among (env d) n) ≡ is_held (pool_seen env c r (Class d)) n

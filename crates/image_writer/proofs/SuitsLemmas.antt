@@ -33,8 +33,8 @@ use Rattle.region_shape.specs.Shapes.{AreElements}
 use Rattle.region_shape.specs.Shapes.{has_objects as has_instances, HasObjects as HasInstances, AreSlots as HaveSlots}
 use Rattle.region_shape.specs.Shapes.{ObjectHasShape as IsShaped}
 use Rattle.image_format.specs.Elements.{kind_of_type, kind_of_elements}
-use Rattle.image_format.specs.declared.value.ImageValue.{ImageValue}
-use Rattle.image_format.specs.declared.value.ImageValue.TheVariants as values
+use Rattle.image_format.specs.Values.{ImageValue}
+use Rattle.image_format.specs.Values as values
 use Rattle.image_format.specs.Shapes.{AreUnits, Suits, IsArrayType, HasObjects, AreSlots}
 use Rattle.image_format.specs.Shapes.{AreElements as AreToldElements, ObjectHasShape, has_objects, has_values}
 use Rattle.image_format.specs.Told.{units_in, told_value, told_array, told_class, told_object}

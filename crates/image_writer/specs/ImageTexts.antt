@@ -1,8 +1,8 @@
 -- The text of an image.
 use Rattle.std.specs.Prelude.{ℕ, List, Option}
-use Rattle.evaluator.specs.Regions.{environment_of}
+use Rattle.region_shape.specs.Regions.{environment_of}
 use Rattle.object_graph.specs.Images.{ImageTables}
-use Rattle.image_format.specs.declared.region.ImageRegion.{ImageRegion}
+use Rattle.image_format.specs.Regions.{ImageRegion}
 use Rattle.image_format.specs.declared.version.Version.TheVariants as versions
 use Rattle.image_format.specs.Texts.{image_text}
 use Rattle.image_format.specs.Told.{told_regions}

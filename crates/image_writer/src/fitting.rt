@@ -5,7 +5,7 @@ ghost use Rattle.std.specs.Prelude.{ℕ, ◌<◌, length};
 ghost use Rattle.std.specs.List.{All};
 ghost use Rattle.vm_state.specs.declared.object.Object.{Object as Held};
 ghost use Rattle.vm_state.specs.Statics.{field_in};
-ghost use Rattle.evaluator.specs.Regions.{environment_of};
+ghost use Rattle.region_shape.specs.Regions.{environment_of};
 ghost use Rattle.image_writer.specs.steps.Fits.{ClassFits, FitsType};
 
 use object_graph::Image;

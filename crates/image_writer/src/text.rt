@@ -5,7 +5,7 @@ ghost use Rattle.std.specs.List.{flat_map};
 ghost use Rattle.sha2.specs.Sha256.{sha256};
 ghost use Rattle.classfile.specs.Spelling.{u2, u4};
 ghost use Rattle.classfile.specs.Text.{class_text};
-ghost use Rattle.evaluator.specs.Regions.{environment_of};
+ghost use Rattle.region_shape.specs.Regions.{environment_of};
 ghost use Rattle.image_format.specs.declared.version.Version.TheVariants.{Two};
 ghost use Rattle.image_format.specs.Texts.{given_text, body_text, file_text};
 ghost use Rattle.image_format.specs.Images.{AreShort, ImageText};

@@ -14,7 +14,7 @@ use Rattle.init_engine.specs.Standing.{Standing}
 use Rattle.init_engine.specs.Turnings.{IsWithin, Midway, IsUnderWay, HasTurned, IsSlice, RunsAhead, text_length}
 use Rattle.init_engine.specs.declared.world.Turn.{Turn}
 use Rattle.init_engine.specs.declared.world.Turn.TheVariants.{Moved, Waiting, Ended}
-use Rattle.init_engine.specs.declared.rounds.Place.{Place}
+use Rattle.init_engine.specs.declared.rounds.RoundPlace.{RoundPlace}
 use Rattle.init_engine.specs.declared.rounds.Allowance.{Allowance}
 use Rattle.init_engine.specs.Rounds.{Turns, TurnsSoFar}
 use Rattle.init_engine.specs.steps.Rounds.{IsAsking, IsAskedSo, IsRunAhead}
@@ -120,7 +120,7 @@ turn_prints Ended had bytes left old new some same counted none all =
 
 -- ---- steps, and what they printed
 
-pub spends_then : (x y z : Place) (r s t : List ℕ) (a b c : List Print) (had mid left : Allowance)
+pub spends_then : (x y z : RoundPlace) (r s t : List ℕ) (a b c : List Print) (had mid left : Allowance)
     → Spends x y r s a b had mid → Spends y z s t b c mid left → Spends x z r t a c had left
 spends_then x y z r s t a b c had mid left p q = record {
   made = p.made + q.made;
@@ -167,17 +167,17 @@ asked_turn P first w new most t done Ended before now after so room asking =
     (asked_ended P first w new most t done before now after so room asking)
 
 -- the place after a turn that made so many steps
-abbrev pub after_turn : Place → ℕ → Place
+abbrev pub after_turn : RoundPlace → ℕ → RoundPlace
 after_turn p made = record { left = p.left; asked = p.asked + 1; done = p.done + made }
 
-pub asks_turn : (P : Program) (turn : Turn) (made : ℕ) (from p : Place) (old w new : World) (before now after : List ℕ)
+pub asks_turn : (P : Program) (turn : Turn) (made : ℕ) (from p : RoundPlace) (old w new : World) (before now after : List ℕ)
     → AsksFurther P from p old w before now → made ≡ steps_of turn → p.done < p.left →
     IsAsking P w p.asked turn new now after → AsksFurther P from (after_turn p made) old new before after
 asks_turn P turn made from p old w new before now after asks is room asking begin rounds so =
     subst (λ k. IsAskedSo P begin p.left (p.asked + 1) (p.done + k) new rounds after) (sym is)
     (asked_turn P begin w new p.left p.asked p.done turn rounds now after (asks begin rounds so) room asking)
 
-pub place_of_turn : (turn : Turn) (made count : ℕ) (p : Place) → IsPlace count p → made ≡ steps_of turn
+pub place_of_turn : (turn : Turn) (made count : ℕ) (p : RoundPlace) → IsPlace count p → made ≡ steps_of turn
     → p.asked < count → p.done < p.left → IsPlace count (after_turn p made)
 place_of_turn turn made count p is made_is more room =
     let few : made ≤ 1 = omega (arith, steps_few turn, made_is) in
@@ -187,7 +187,7 @@ place_of_turn turn made count p is made_is more room =
       few = omega (arith, few, is.few);
     }
 
-pub spends_turn : (P : Program) (turn : Turn) (made : ℕ) (from p : Place) (w next : World)
+pub spends_turn : (P : Program) (turn : Turn) (made : ℕ) (from p : RoundPlace) (w next : World)
     (before now after : List ℕ) (old mid new : List Print) (had left : Allowance) (text : ℕ) →
     Spends from p before now old mid had left → made ≡ steps_of turn → p.done < p.left → 0 < left.steps →
     IsAsking P w p.asked turn next now after → PrintsBy (steps_of turn) mid new left.text text →
@@ -208,10 +208,10 @@ spends_turn P turn made from p w next before now after old mid new had left text
 -- ---- rounds of one step, and then a round
 
 -- the place after so many rounds of one step
-abbrev pub after_rounds : Place → ℕ → Place
+abbrev pub after_rounds : RoundPlace → ℕ → RoundPlace
 after_rounds p n = record { left = p.left - n; asked = p.asked; done = p.done }
 
-pub spends_ahead : (P : Program) (count most n : ℕ) (from p : Place) (w next : World) (before now after : List ℕ)
+pub spends_ahead : (P : Program) (count most n : ℕ) (from p : RoundPlace) (w next : World) (before now after : List ℕ)
     (old mid new : List Print) (had left : Allowance) (text : ℕ) → Spends from p before now old mid had left →
     p.done ≤ p.left → p.done ≤ p.asked → IsRunAhead P count w most n next now after →
     PrintsBy n mid new left.text text → n ≤ p.left → n ≤ left.steps → (0 < p.asked → n ≡ 0) →
@@ -229,14 +229,14 @@ spends_ahead P count most n from p w next before now after old mid new had left 
     spends_then from p (after_rounds p n) before now after old mid new had left
     (record { steps = left.steps - n; text = text }) spends further
 
-pub goes_ahead : (P : Program) (count most n : ℕ) (from p : Place) (old w next : World) (before now after : List ℕ)
+pub goes_ahead : (P : Program) (count most n : ℕ) (from p : RoundPlace) (old w next : World) (before now after : List ℕ)
     → GoesOn P count from p old w before now → IsRunAhead P count w most n next now after → n ≤ p.left →
     (0 < p.asked → n ≡ 0) → GoesOn P count from (after_rounds p n) old next before after
 goes_ahead P count most n from p old w next before now after on alone fits midst first limit t =
     ahead_so_far P count limit p.left p.asked p.done most n first w next now after (on first limit t) alone fits
     midst
 
-pub goes_by_round : (P : Program) (count : ℕ) (from p to : Place) (old w new : World) (before now after : List ℕ)
+pub goes_by_round : (P : Program) (count : ℕ) (from p to : RoundPlace) (old w new : World) (before now after : List ℕ)
     → GoesOn P count from p old w before now → AsksFurther P p to w new now after → to.left ≡ p.left →
     to.asked ≤ count → GoesOn P count from to old new before after
 goes_by_round P count from p to old w new before now after on asks same within first limit t =
@@ -246,19 +246,19 @@ goes_by_round P count from p to old w new before now after on asks same within f
     (asks begin rounds so)))
 
 -- the beginning of the next round
-abbrev pub after_round : Place → Place
+abbrev pub after_round : RoundPlace → RoundPlace
 after_round p = record { left = p.left - p.done; asked = 0; done = 0 }
 
-pub goes_to_next : (P : Program) (count : ℕ) (from p : Place) (old now : World) (before after : List ℕ)
+pub goes_to_next : (P : Program) (count : ℕ) (from p : RoundPlace) (old now : World) (before after : List ℕ)
     → GoesOn P count from p old now before after → p.asked ≡ count → 0 < p.done →
     GoesOn P count from (after_round p) old now before after
 goes_to_next P count from p old now before after on all some first limit t =
     next_so_far P count limit p.left p.asked p.done first now after (on first limit t) all some
 
-pub place_of_next : (count : ℕ) (p : Place) → IsPlace count (after_round p)
+pub place_of_next : (count : ℕ) (p : RoundPlace) → IsPlace count (after_round p)
 place_of_next count p = record { within = omega arith; bounded = omega arith; few = omega arith }
 
-pub spends_to_next : (from p : Place) (before after : List ℕ) (old new : List Print) (had left : Allowance)
+pub spends_to_next : (from p : RoundPlace) (before after : List ℕ) (old new : List Print) (had left : Allowance)
     → Spends from p before after old new had left → Spends from (after_round p) before after old new had left
 spends_to_next from p before after old new had left s = record {
   made = s.made;
@@ -270,7 +270,7 @@ spends_to_next from p before after old new had left s = record {
 
 -- ---- both, one after the other
 
-pub goes_round : (P : Program) (count threads most n : ℕ) (from p to : Place) (old w mid new : World)
+pub goes_round : (P : Program) (count threads most n : ℕ) (from p to : RoundPlace) (old w mid new : World)
     (before now further after : List ℕ) → GoesOn P count from p old w before now → threads ≡ count →
     IsRunAhead P threads w most n mid now further → n ≤ p.left → (0 < p.asked → n ≡ 0) →
     AsksFurther P (after_rounds p n) to mid new further after → to.left ≡ p.left - n → to.asked ≤ count →
@@ -281,7 +281,7 @@ goes_round P count threads most n from p to old w mid new before now further aft
     (subst (λ k. IsRunAhead P k w most n mid now further) all alone) fits midst in
     goes_by_round P count from (after_rounds p n) to old mid new before further after ahead asks same within
 
-pub spends_round : (P : Program) (count threads most n : ℕ) (from p to : Place) (w mid : World)
+pub spends_round : (P : Program) (count threads most n : ℕ) (from p to : RoundPlace) (w mid : World)
     (before now further after : List ℕ) (a b c d : List Print) (had left spent : Allowance) (text : ℕ) →
     Spends from p before now a b had left → IsPlace count p → IsRunAhead P threads w most n mid now further →
     PrintsBy n b c left.text text → n ≤ p.left → n ≤ left.steps → (0 < p.asked → n ≡ 0) →
@@ -296,18 +296,18 @@ spends_round P count threads most n from p to w mid before now further after a b
 
 -- ---- where they halted
 
-pub last_of : (count : ℕ) (over : Bool) (p : Place) (a : Allowance) → HasHalted count over p a → over ≡ true
+pub last_of : (count : ℕ) (over : Bool) (p : RoundPlace) (a : Allowance) → HasHalted count over p a → over ≡ true
     → IsLast count p
 last_of count true p a halted is = halted
 last_of count false p a halted is = cc
 
-pub spent_of : (count : ℕ) (over : Bool) (p : Place) (a : Allowance) → HasHalted count over p a → over ≡ false
+pub spent_of : (count : ℕ) (over : Bool) (p : RoundPlace) (a : Allowance) → HasHalted count over p a → over ≡ false
     → IsSpent a
 spent_of count true p a halted is = cc
 spent_of count false p a halted is = halted
 
 -- what was spent whole was as many steps, or as much text
-pub spent_whole : (from to : Place) (before after : List ℕ) (old new : List Print) (had left : Allowance)
+pub spent_whole : (from to : RoundPlace) (before after : List ℕ) (old new : List Print) (had left : Allowance)
     (s : Spends from to before after old new had left) → IsSpent left →
     (s.made ≡ had.steps) ⊎ (had.text ≤ text_length s.prints.lines)
 spent_whole from to before after old new had left s (inl steps) = inl (omega (arith, s.counted, steps))
@@ -315,7 +315,7 @@ spent_whole from to before after old new had left s (inr text) = inr (omega (ari
 
 -- ---- a whole slice
 
-abbrev pub place_of : Midway → Place
+abbrev pub place_of : Midway → RoundPlace
 place_of t = record { left = t.left; asked = t.asked; done = t.done }
 
 pub has_turned : (P : Program) (first : World) (limit : ℕ) (over : Bool) (old new : Midway) (a : Allowance)

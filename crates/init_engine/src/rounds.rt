@@ -22,7 +22,7 @@ use vm_state::output::Output;
 
 /// Where rounds stand.
 #[derive(Clone, Copy)]
-pub(crate) struct Place {
+pub(crate) struct RoundPlace {
     /// How many steps may be made from the beginning of the round on.
     pub(crate) left: u64,
     /// How many threads of the round were asked: the next one has this number.
@@ -31,12 +31,12 @@ pub(crate) struct Place {
     pub(crate) done: u64,
 }
 
-impl Place {
+impl RoundPlace {
     /// At the beginning of a round.
-    pub(crate) fn begin(left: u64) -> Place
+    pub(crate) fn begin(left: u64) -> RoundPlace
         ensures { result ≡ record { left = left; asked = 0; done = 0 } }
     {
-        Place {
+        RoundPlace {
             left,
             asked: 0,
             done: 0,
@@ -162,9 +162,9 @@ fn round(
     program: &Program,
     world: &mut World,
     schedule: &mut Schedule,
-    from: Place,
+    from: RoundPlace,
     allowance: &mut Allowance,
-) -> Result<Place, AllocError>
+) -> Result<RoundPlace, AllocError>
     requires place { IsPlace (length world.old.threads) from }
     requires room { length (schedule_of schedule.old) + to_go_from from < 2 ^ 64 }
     ensures asks { IfOk result (λ to. AsksFurther (program_of program.now) from to (world_of world.old)
@@ -271,9 +271,9 @@ pub(crate) fn run_rounds(
     world: &mut World,
     table: &mut StepTable,
     schedule: &mut Schedule,
-    from: Place,
+    from: RoundPlace,
     allowance: &mut Allowance,
-) -> Result<(Place, bool), AllocError>
+) -> Result<(RoundPlace, bool), AllocError>
     requires place { IsPlace (length world.old.threads) from }
     requires room { length (schedule_of schedule.old) + to_go_from from < 2 ^ 64 }
     requires steps { KeepsSteps program.now table.old }
@@ -308,7 +308,7 @@ pub(crate) fn run_rounds(
         if place.asked < count {
             return Ok((place, false));
         }
-        place = Place::begin(place.left - place.done);
+        place = RoundPlace::begin(place.left - place.done);
     }
 }
 

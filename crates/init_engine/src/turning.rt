@@ -10,7 +10,7 @@ ghost use Rattle.init_engine.specs.Turnings.{CanGoOn, HasTurned, IsSlice, IsUnde
 ghost use Rattle.init_engine.specs.Schedules.{schedule_of, AreRuns};
 ghost use Rattle.init_engine.specs.Rounds.{Turns, HasStopped};
 
-use crate::rounds::{Allowance, Place, run_rounds};
+use crate::rounds::{Allowance, RoundPlace, run_rounds};
 use crate::schedule::Schedule;
 use crate::world::World;
 use courses::step_table::StepTable;
@@ -25,7 +25,7 @@ pub struct Turning {
     world: World,
     table: StepTable,
     schedule: Schedule,
-    place: Place,
+    place: RoundPlace,
 }
 
 impl Model for Turning {
@@ -67,7 +67,7 @@ impl Turning {
             world,
             table: StepTable::new(alloc),
             schedule: Schedule::new(alloc),
-            place: Place::begin(limit),
+            place: RoundPlace::begin(limit),
         }
     }
 

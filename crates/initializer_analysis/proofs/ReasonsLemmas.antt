@@ -24,13 +24,6 @@ pub record AddsBelow (Is : ℕ → Type 0) (reason : Reason) (i : ℕ) (old new 
   pub told : (c : ℕ) → c < i → IsNext (Is c) reason (slice_index_or old c None) (slice_index_or new c None)
   pub kept : (c : ℕ) → i ≤ c → slice_index_or new c None ≡ slice_index_or old c None
 
-pub adds_none : (Is : ℕ → Type 0) (reason : Reason) (old : List (Option Reason)) → AddsBelow Is reason 0 old old
-adds_none Is reason old = record {
-  len = refl;
-  told = λ c low. absurd (omega arith);
-  kept = λ c more. refl;
-}
-
 IsNext-same : (A B : Type 0) (reason : Reason) (old new : Option Reason) → (A ↔ B) → IsNext A reason old new
     → IsNext B reason old new
 IsNext-same A B reason (Some known) new same is = is

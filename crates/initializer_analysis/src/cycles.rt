@@ -56,7 +56,7 @@ fn has_other(
     table[number].first_but(class).is_some()
 }
 
-/// No classes, for so many components.
+/// No classes, for `count` components.
 fn no_members(alloc: Global, count: usize) -> Result<Vec<Least>, AllocError>
     ensures { IfOk result (λ table. table.items ≡ replicate count no_labels) }
 {

@@ -1,4 +1,4 @@
-//! What holds of all verdicts.
+//! Laws of verdicts.
 
 ghost use Rattle.initializer_analysis.specs.Verdicts.{HasVerdicts, OneVerdict, WavesFall};
 

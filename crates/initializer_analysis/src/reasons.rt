@@ -147,7 +147,7 @@ fn add_reasons(
     Ok(())
 }
 
-/// No reasons, for so many classes.
+/// No reasons, for `count` classes.
 fn no_reasons(alloc: Global, count: u32) -> Result<Vec<Option<Reason>>, AllocError>
     ensures { IfOk result (λ reasons. reasons.items ≡ replicate count None) }
 {

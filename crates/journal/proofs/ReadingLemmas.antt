@@ -7,10 +7,10 @@ use Rattle.init_engine.proofs.ScheduleLemmas.{schedule_of-more}
 use Rattle.journal.specs.declared.fault.JournalFault.{JournalFault}
 use Rattle.journal.specs.declared.fault.JournalFault.TheVariants.{Memory, Text}
 use Rattle.journal.specs.Journals.JournalFails.{line as fails}
-use Rattle.journal.specs.Journals.{JournalFails, AreLines, IsFirstFault, IsRun, MayFollow, in_row}
+use Rattle.journal.specs.Journals.{JournalFails, IsFirstFault, IsRun, MayFollow, in_row}
 use Rattle.journal.specs.Journals.{last_in_row, line_of, lines_of}
 use Rattle.journal.specs.Journals.AreLines.{none, more}
-use Rattle.journal.specs.steps.Adding.{Extends, IsAdded, IsReadSo}
+use Rattle.journal.specs.steps.Adding.{IsAdded, IsReadSo}
 use Rattle.journal.proofs.LineLemmas.{same_run, some_bytes}
 use Rattle.journal.proofs.RunsLemmas.{last_more}
 

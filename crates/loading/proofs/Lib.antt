@@ -1,6 +1,5 @@
 pub mod PlaceLemmas
 pub mod FamiliesParentLemmas
-pub mod OptionLemmas
 pub mod NamesLemmas
 pub mod OwnNamesLemmas
 pub mod LinkingPlaceLemmas

@@ -1,5 +1,5 @@
 -- The graph of given parents.
-use Rattle.std.proofs.Common.{◌≡◌, ℕ, ◌+◌, ◌<◌, ◌≤◌, ◌^◌, ◌⊎◌, inl, inr, List, [], ◌++◌, length, get_or, slice_index}
+use Rattle.std.proofs.Common.{◌≡◌, ℕ, ◌+◌, ◌<◌, ◌≤◌, ◌⊎◌, inl, inr, List, [], ◌++◌, length, get_or, slice_index}
 use Rattle.std.proofs.Common.{Option, Some, refl, sym, ap, subst, ◌∙◌, arith}
 use Rattle.std.specs.List.{All, Contains, slice_get}
 use Rattle.std.specs.Option.{option_map}
@@ -136,8 +136,3 @@ numbers_within family graph n x within at-x count k d small =
     within n (get_or (numbers_of_class x) k d) (subst (λ (z : List ℕ). Contains z (get_or (numbers_of_class x) k d))
     (sym (parents_of_child family n x at-x)) has) in
     omega (arith, below, count)
-
-pub small_vertices : (family : Family) (graph : Rows) (order : List ℕ) → length family ≤ 65535 → IsGraphOf family graph
-    → IsTopological graph order → All (λ v. v < 2 ^ 32) order
-small_vertices family graph order few g t k d within =
-    (let below = t.each.within k d within in omega (arith, below, g.count))

@@ -1,11 +1,9 @@
 -- The names of a class's parents, one by one.
-use Rattle.std.proofs.Common.{◌≡◌, ℕ, ◌+◌, ◌<◌, ◌≤◌, true, false, List, [], ◌∷◌, ◌++◌, length, get_or, take, map}
-use Rattle.std.proofs.Common.{Option}
+use Rattle.std.proofs.Common.{◌≡◌, ℕ, ◌+◌, ◌<◌, ◌≤◌, false, List, [], ◌∷◌, ◌++◌, length, get_or, take, map, Option}
 use Rattle.std.proofs.Common.{Some, None, slice_get, slice_index_or, refl, sym, ap, subst, ◌∙◌, eqb, arith}
 use Rattle.std.specs.List.{All, Contains}
 use Rattle.std.proofs.lemmas.Bool.{ne_eqb}
 use Rattle.std.proofs.lemmas.List.{length-map, take_all, take_more, get_or-map, map-append}
-use Rattle.std.proofs.lemmas.List.Elements.{All-push}
 use Rattle.std.proofs.lemmas.Option.{same_Some, slice_get_within, slice_get-get_or}
 use Rattle.classfile.specs.ClassFile.{ClassFile}
 use Rattle.loading.specs.declared.given.Superclass.{Superclass}
@@ -14,8 +12,7 @@ use Rattle.loading.specs.declared.parents.InterfaceFault.{InterfaceFault}
 use Rattle.loading.specs.declared.parents.InterfaceFault.TheVariants.{Memory, Bad}
 use Rattle.loading.specs.Names.{class_name_at, superclass_of, interfaces_of}
 use Rattle.loading.specs.Files.{IsUnknown}
-use Rattle.loading.specs.steps.Linking.{name_at, is_interface_at, name_among, AreInterfaces, HasBadInterface}
-use Rattle.loading.specs.steps.Linking.{one_no_interface}
+use Rattle.loading.specs.steps.Linking.{name_among, AreInterfaces, HasBadInterface, one_no_interface}
 use Rattle.loading.specs.steps.FoundNames.{AreTheirNumbers}
 use Rattle.loading.specs.steps.InterfaceFaults.{FailsFor, FailsAmong}
 use Rattle.loading.proofs.PlaceLemmas.{mapped_at, place_in, contains_at}
@@ -70,28 +67,6 @@ all_named files f n classes all so_far =
     ap (λ (z : List ℕ). map Some (map (class_name_at f) z)) (sym (take_all n f.interfaces all)) ∙ so_far
 
 -- ---- their numbers
-
-pub one_number : (files : List ClassFile) (classes : List Superclass) (n : ℕ) (class : Superclass)
-    (numbers new : List ℕ) (i : ℕ) → n < length classes → class ≡ get_or classes n class
-    → AreTheirNumbers files (take n classes) numbers
-    → new ≡ numbers ++ i ∷ [] → name_among files class ≡ name_at files i
-    → is_interface_at files i ≡ true → AreTheirNumbers files (take (n + 1) classes) new
-one_number files classes n class numbers new i within is so_far pushed name kind = record {
-  names = rw (pushed, front) (simp (map-append) joined);
-  each = rw pushed (All-push (λ j. is_interface_at files j ≡ true) numbers i so_far.each kind);
-}
-  where
-    front : take (n + 1) classes ≡ take n classes ++ class ∷ []
-    front = take_more classes n class within ∙ ap (λ (z : Superclass). take n classes ++ z ∷ []) (sym is)
-
-    joined : map (name_among files) (take n classes) ++ name_among files class ∷ []
-        ≡ map (name_at files) numbers ++ name_at files i ∷ []
-    joined = rw (so_far.names, name) refl
-
-pub all_numbers : (files : List ClassFile) (classes : List Superclass) (n : ℕ) (numbers : List ℕ)
-    → length classes ≤ n → AreTheirNumbers files (take n classes) numbers → AreTheirNumbers files classes numbers
-all_numbers files classes n numbers all so_far =
-    subst (λ (z : List Superclass). AreTheirNumbers files z numbers) (take_all n classes all) so_far
 
 pub are_interfaces : (files : List ClassFile) (f : ClassFile) (classes : List Superclass) (numbers : List ℕ)
     → map Some (interfaces_of f) ≡ map (name_among files) classes → AreTheirNumbers files classes numbers

@@ -8,7 +8,7 @@ use std::alloc::{AllocError, AllocFailed};
 use std::fmt::{self, Display, Formatter, Write};
 use thiserror::Error;
 
-/// What is wrong with the parents of a class.
+/// A fault of the parents of a class.
 #[derive(Clone, Copy, Debug)]
 pub enum BadParent {
     /// 1: it has no superclass.

@@ -87,7 +87,7 @@ fn leading_brackets(name: &[u8]) -> usize
     name.len()
 }
 
-/// So many dimensions, if an array type can have them (JVMS 4.3.2).
+/// This number of dimensions, if an array type can have as many (JVMS 4.3.2).
 fn dimensions_of(count: usize) -> Option<u8>
     ensures { SomeIff result ((1 ≤ count) × (count ≤ 255)) count }
 {

@@ -22,15 +22,6 @@ module _ {S T : Type 0} (state : S → List Print → T) where
   kept_same Barred s = refl
   kept_same OverBudget s = refl
 
-  -- whatever stopped it, the state is as it was
-  pub kept_state : (stop : Stop) (old new : S) → Kept state stop old new → (p : List Print) → state new p ≡ state old p
-  kept_state Memory old new kept p = kept p
-  kept_state (Needs c) old new kept p = ap (λ s. state s p) kept
-  kept_state Waits old new kept p = ap (λ s. state s p) kept
-  kept_state ForeignObject old new kept p = ap (λ s. state s p) kept
-  kept_state Barred old new kept p = ap (λ s. state s p) kept
-  kept_state OverBudget old new kept p = ap (λ s. state s p) kept
-
   -- a store that an instruction did nothing to
   pub kept_by_same : (r : Result Conclusion Stop) (s : S) → KeptBy state r s s
   kept_by_same (Ok Stays) s = tt

@@ -1,6 +1,5 @@
 -- Places in lists: of elements in pairs, and of the first element that passes.
-use Rattle.std.proofs.Common.{◌≡◌, ℕ, zero, suc, ◌+◌, Bool, true, false, ◌&&◌, List, [], ◌∷◌}
-use Rattle.std.proofs.Common.{Some, slice_get, refl}
+use Rattle.std.proofs.Common.{◌≡◌, ℕ, zero, suc, ◌+◌, Bool, true, false, ◌&&◌, List, [], ◌∷◌, Some, slice_get, refl}
 use Rattle.std.proofs.Common.{subst, arith}
 use Rattle.std.specs.List.{AllZip, position_from}
 
@@ -61,10 +60,6 @@ pub second_of_three : (a b c : Bool) → (a && b && c) ≡ true → b ≡ true
 second_of_three true true c e = refl
 second_of_three true false c e = absurd cc
 second_of_three false b c e = absurd cc
-
-pub first_of_four : (a b c d : Bool) → (a && b && c && d) ≡ true → a ≡ true
-first_of_four true b c d e = refl
-first_of_four false b c d e = absurd cc
 
 pub third_of_four : (a b c d : Bool) → (a && b && c && d) ≡ true → c ≡ true
 third_of_four true true true d e = refl

@@ -9,18 +9,11 @@ use Rattle.vm_state.specs.SharedState.{SharedState, pool_of, slots_at}
 use Rattle.semantics.specs.Rows.{Row, AskClass, Slots, Length, part_of, int_length}
 use Rattle.machine.specs.declared.kinds.Actor.{Actor}
 use Rattle.machine.specs.Sharing.{run_shared}
-use Rattle.machine.specs.ObjectParts.{slot_in, size_in, count_slots, ask_length, ask_class_of, without_object}
-use Rattle.machine.specs.ObjectParts.{with_object}
+use Rattle.machine.specs.ObjectParts.{slot_in, size_in, count_slots, ask_length, ask_class_of}
 
 pub class_asked : (v : Value) (x : Name) (next : Option ClassId → Row) → name_of v ≡ Some x
     → ask_class_of v next ≡ AskClass x next
 class_asked v x next is = rw is refl
-
-pub on_named : (v : Value) (x : Name) (go : Name → Row) → name_of v ≡ Some x → with_object v go ≡ go x
-on_named v x go is = rw is refl
-
-pub on_nameless : (v : Value) (go : Name → Row) → name_of v ≡ None → with_object v go ≡ without_object v
-on_nameless v go is = rw is refl
 
 -- how many slots an object has, where all threads hold these
 pub length_asked : (by : Actor) (sh : SharedState) (x : Name) (o : Option (List Value)) (next : Option ℤ → Row)

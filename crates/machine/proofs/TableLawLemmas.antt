@@ -1,7 +1,6 @@
 -- What holds of the values that it was given holds of all that an instruction of the table writes and leaves. Each
 -- writes a final in its own class's initialization method alone, and makes no frame of such a method.
-use Rattle.std.proofs.Common.{ℕ, Option, Some, None, Ok, Err, ◌≡◌, Bool, true, refl, ap}
-use Rattle.std.proofs.Common.{◌∙◌}
+use Rattle.std.proofs.Common.{ℕ, Option, Some, None, Ok, Err, ◌≡◌, Bool, true, refl, ap, ◌∙◌}
 use Rattle.std.specs.declared.result.Result.{Result}
 use Rattle.std.specs.List.{AllByRecursion}
 use Rattle.std.specs.Result.{IfOk}
@@ -25,20 +24,17 @@ use Rattle.program.specs.Tables.{Tables, implementation_at, main_in}
 use Rattle.frame_instructions.specs.declared.trap.Trap.{Trap}
 use Rattle.frame_instructions.specs.declared.trap.Trap.TheVariants as traps
 use Rattle.frame_instructions.specs.Families.{local_after}
-use Rattle.frame_instructions.proofs.LawsFrameLemmas.{HoldsOfLocals, top_has, rest_has, pushed_has}
-use Rattle.frame_instructions.proofs.LawsFrameLemmas.{stored_has}
+use Rattle.frame_instructions.proofs.LawsFrameLemmas.{HoldsOfLocals, top_has, rest_has, pushed_has, stored_has}
 use Rattle.frame_instructions.proofs.FamiliesNameLemmas.{local_kept}
 use Rattle.machine.specs.Operations.{Operation, Local, PushText, GetStatic, PutStatic, GetOut, OnArray, OnCall, Return}
 use Rattle.machine.specs.Operations.{OnObject, Refused, operation_at}
 use Rattle.machine.specs.StoredKinds.{top_stored}
 use Rattle.machine.proofs.StoredKindsLemmas.{stored_kept}
 use Rattle.machine.specs.RowParts.{halts, goes_on, push, raises}
-use Rattle.machine.specs.Table.{local_row, operation_row, call_main}
-use Rattle.machine.specs.Table.{fetched, active_row, row}
+use Rattle.machine.specs.Table.{local_row, operation_row, call_main, fetched, active_row, row}
 use Rattle.machine.specs.Linked.{initialized_by, program_of}
 use Rattle.machine.specs.Laws.{AreSound}
-use Rattle.machine.proofs.TableLemmas.{of_some, needing_such, if_usable_any, HoldsOfCall}
-use Rattle.machine.proofs.TableLemmas.{called_any}
+use Rattle.machine.proofs.TableLemmas.{of_some, needing_such, if_usable_any, HoldsOfCall, called_any}
 use Rattle.machine.proofs.ArrayLawLemmas.{array_suits}
 use Rattle.machine.proofs.LinkedLemmas.{found_class_has, class_is_found}
 use Rattle.machine.proofs.ObjectLawLemmas.{object_suits}
@@ -77,9 +73,6 @@ module _ {P : Tables} (sound : AreSound P) {N : Name → Type 0} {Q : Value → 
 
     one_less : AllByRecursion Q (rest f.operands).values
     one_less = rest_has Q f.operands h.0
-
-    two_less : AllByRecursion Q (rest (rest f.operands)).values
-    two_less = rest_has Q (rest f.operands) one_less
 
     -- an instruction of a method, whose frame this is
     module _ (d m : ℕ) (runs : f.activity ≡ Method d m) where

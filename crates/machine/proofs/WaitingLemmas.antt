@@ -125,14 +125,6 @@ module _ (t : ℕ) (maker : Maker) where
 
     -- ---- monitors
 
-    entered_steps : (b : Bool) (before : SharedState) → waits (run_row t maker before (entered f b)) ≡ false
-    entered_steps true before = refl
-    entered_steps false before = refl
-
-    left_steps : (b : Bool) (before : SharedState) → waits (run_row t maker before (left f b)) ≡ false
-    left_steps true before = refl
-    left_steps false before = refl
-
     abbrev after : Name → (Bool → Row) → Bool → Monitor → Result
     after x next done m =
         run_row t maker (set_pool sh x.maker (with_monitor (pool_of sh x.maker) x.number m)) (next done)

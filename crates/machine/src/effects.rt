@@ -161,7 +161,7 @@ fn throw(
     }
 }
 
-/// A call: the frame of the method called stands on its caller, which loses so many operands.
+/// A call: the frame of the method called stands on its caller, which loses the arguments.
 ///
 /// # Errors
 /// `AllocError` where memory is refused: then the stack is as it was.
@@ -196,7 +196,7 @@ fn call(
     }
 }
 
-/// A print: the frame goes on at the next instruction without so many operands, and the text comes behind what was
+/// A print: the frame goes on at the next instruction without these operands, and the text comes behind what was
 /// printed before.
 ///
 /// # Errors

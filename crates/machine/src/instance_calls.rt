@@ -41,7 +41,7 @@ pub fn receiver_under(cells: &Cells, kinds: &[FieldKind]) -> Result<Value, Fault
     OperandKind::Reference.of(cells.below(kinds.len())?)
 }
 
-/// A method, if there is one, on a receiver that is not null, with so many operands as its receiver and arguments.
+/// A method, if there is one, on a receiver that is not null, with `count` operands as its receiver and arguments.
 #[tactic(auto, unfolding(crate::specs::Accesses::unless_refused), using(crate::proofs::AccessesLemmas::kept_by_same))]
 fn run_method<S: Store>(
     alloc: Global,
@@ -119,7 +119,7 @@ pub fn names_another(call: InstanceCall, receiver: Value) -> bool
     is_out(receiver) && !call.names_stream
 }
 
-/// A call on a receiver, which is one of so many operands.
+/// A call on a receiver, which is one of `count` operands.
 ///
 /// # Errors
 /// The store's reason, or `Stop::Memory`. The frame is as it was, and so is the store; where memory is refused, what

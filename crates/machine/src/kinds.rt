@@ -25,12 +25,12 @@ pub enum Conclusion {
     Stays,
     /// This one takes its place.
     Becomes(Frame),
-    /// It waits at its call, and the frame of the method called stands on it, whose arguments are so many operands on
-    /// top. The frame is as it was.
+    /// It waits at its call, and the frame of the method called stands on it, whose arguments are this number of
+    /// operands on top. The frame is as it was.
     Calls { callee: Frame, arguments: usize },
     /// The frame goes, with a value for its caller or with none.
     Returns(Option<Value>),
-    /// It prints this text, and the frame goes on without so many operands on top. The frame is as it was.
+    /// It prints this text, and the frame goes on without this number of operands. The frame is as it was.
     Prints { text: Text, operands: usize },
     /// This exception, of this class, is raised in it (JVMS 2.10).
     Raises(Name, ClassId),

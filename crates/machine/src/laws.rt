@@ -1,4 +1,4 @@
-//! What holds of the table of instructions as a whole.
+//! Laws of the table of instructions as a whole.
 
 ghost use Rattle.machine.specs.Laws.{LinkedTablesAreSound, TableIsLawful};
 

@@ -23,7 +23,7 @@ use vm_state::value::{Name, Value};
 
 const FAULT: Result<Conclusion, Stop> = Ok(Conclusion::Halts(FaultKind::Fault));
 
-/// Drops so many operands, and goes on.
+/// Drops `count` operands, and goes on.
 fn drop_operands(frame: &mut Frame, count: usize) -> Conclusion
     ensures gives { drops count frame.old ≡ concluded result frame.new }
     ensures frame { Untouched (Ok result) frame.old frame.new }
@@ -168,7 +168,7 @@ fn clone_array<S: Store>(
     }
 }
 
-/// A method of a built-in class or of an array, on a receiver that is not null, the lowest of so many operands.
+/// A method of a built-in class or of an array, on a receiver that is not null, the lowest of `count` operands.
 ///
 /// # Errors
 /// The store's reason, or `Stop::Memory`. The frame is as it was, and so is the store; where memory is refused, what

@@ -81,7 +81,7 @@ fn ended(line: bool, text: Text) -> Result<Text, AllocError>
     if line { text.with_line_end() } else { Ok(text) }
 }
 
-/// Prints a text on a receiver, or calls the method that another receiver has, with so many operands.
+/// Prints a text on a receiver, or calls the method that another receiver has, with `count` operands.
 #[tactic(auto, using(crate::proofs::AccessesLemmas::kept_by_same, crate::proofs::AccessesLemmas::untouched_as))]
 fn print_on<S: Store>(
     alloc: Global,

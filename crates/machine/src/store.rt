@@ -158,7 +158,7 @@ pub trait Store {
         ensures refused { IfOk result (λ done. done ≡ false → self.new ≡ self.old) }
         ensures same { IfErr result (λ stop. Kept state stop self.old self.new) };
 
-    /// Makes an array whose components are so many times this value, and whose monitor is free, and answers its name.
+    /// Makes an array of `size` components with this value, whose monitor is free, and answers its name.
     /// Where it is stopped nothing changes; where memory stops it, nothing that definitions see.
     ///
     /// # Errors

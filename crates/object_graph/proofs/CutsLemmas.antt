@@ -21,7 +21,7 @@ use Rattle.region_shape.specs.Wholes.{AreWhole}
 use Rattle.object_graph.specs.declared.name_set.ObjectName.{ObjectName}
 use Rattle.object_graph.specs.Cuts.{IsCutRegion, IsCutAt, IsCutOf, AreReached, OneCut, NothingLeftOut}
 use Rattle.object_graph.specs.Images.{AreSmall, ImageTables}
-use Rattle.evaluator.specs.Regions.{environment_of}
+use Rattle.region_shape.specs.Regions.{environment_of}
 use Rattle.object_graph.specs.Reached.{reference_to, object_among, object_of, IsReached, static, held}
 use Rattle.object_graph.proofs.StaticsLemmas.{names_static}
 

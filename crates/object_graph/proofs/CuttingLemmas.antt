@@ -1,21 +1,17 @@
 -- Regions whose objects are left out class by class.
-use Rattle.std.proofs.Common.{◌≡◌, ◌≢◌, ◌∙◌, ◌↔◌, ◌⊎◌, ℕ, ◌+◌, ◌<◌, ◌≤◌, ◌==◌, true, false, List, length, Option, Some}
-use Rattle.std.proofs.Common.{None, slice_get}
-use Rattle.std.proofs.Common.{slice_set, option_map, if◌then◌else◌, refl, sym, ap, subst, eq-eqb, eqb-true, ne_eqb, inl}
-use Rattle.std.proofs.Common.{inr, arith}
+use Rattle.std.proofs.Common.{◌≡◌, ◌≢◌, ◌∙◌, ◌↔◌, ℕ, ◌+◌, ◌<◌, ◌≤◌, true, List, length, Option, Some, None, slice_get}
+use Rattle.std.proofs.Common.{option_map, refl, sym, ap, subst, inl, inr, arith}
 use Rattle.std.specs.List.{Contains}
 use Rattle.std.proofs.lemmas.Bool.{cases_lt}
-use Rattle.std.proofs.lemmas.List.{length-set, set_past, get_or_past}
 use Rattle.vm_state.specs.declared.object.Object.{Object}
 use Rattle.vm_state.specs.SharedState.{Region}
-use Rattle.vm_state.proofs.ListLemmas.{get_or-slice_set, tested}
 use Rattle.semantics.specs.Quiet.{Environment}
 use Rattle.program.specs.Programs.{IsProgram}
 use Rattle.program.specs.Tables.{Tables}
 use Rattle.region_shape.specs.Wholes.{AreWhole}
 use Rattle.place_set.specs.declared.set.Place.{Place}
-use Rattle.evaluator.specs.declared.regions.Region.{Region as Held}
-use Rattle.evaluator.specs.Regions.{region_of, region_in, environment_of}
+use Rattle.region_shape.specs.declared.regions.Region.{Region as Held}
+use Rattle.region_shape.specs.Regions.{region_of, region_in, environment_of}
 use Rattle.object_graph.specs.Cuts.{IsCutRegion, IsCutAt, IsCutOf, AreReached}
 use Rattle.object_graph.specs.Images.{AreSmall}
 use Rattle.object_graph.specs.Reached.{IsReached}
@@ -24,48 +20,6 @@ use Rattle.object_graph.specs.steps.Places.{row_of, row_in, name_in, IsReachedAt
 use Rattle.object_graph.proofs.CutsLemmas.{part_whole, part_small, all_reached}
 use Rattle.object_graph.proofs.KeptLemmas.{place, among, from_kept, object_kept}
 use Rattle.object_graph.proofs.RowLemmas.{stands}
-
--- ---- one class
-
--- a region that is taken out, and put back as another one
-pub put_back : (old mid new : List (Option Held)) (c : ℕ) (held : Held) → mid ≡ slice_set old c None → c < length old
-    → new ≡ slice_set mid c (Some held) → region_in new c ≡ Some held
-put_back old mid new c held taken low put =
-    let same : (c == c) ≡ true = eq-eqb c c refl in
-    ap (λ (rs : List (Option Held)). region_in rs c) put
-    ∙ get_or-slice_set mid c c (Some held) None (omega (arith, low, ap length taken, length-set old c None))
-    ∙ rw same refl
-
-pub others_stay : (old mid new : List (Option Held)) (c : ℕ) (held : Held) → mid ≡ slice_set old c None → c < length old
-    → new ≡ slice_set mid c (Some held) → (d : ℕ) → d ≢ c → region_in new d ≡ region_in old d
-others_stay old mid new c held taken low put d other =
-    ap (λ (rs : List (Option Held)). region_in rs d) put
-    ∙ (get_or-slice_set mid c d (Some held) None (omega (arith, low, ap length taken, length-set old c None))
-    ∙ (rw (ne_eqb d c other) refl
-    ∙ (ap (λ (rs : List (Option Held)). region_in rs d) taken
-    ∙ (get_or-slice_set old c d None None low ∙ rw (ne_eqb d c other) refl))))
-
--- a class that has a region has a place for it
-pub region_low : (regions : List (Option Held)) (c : ℕ) (held : Held) → Some held ≡ region_in regions c
-    → c < length regions
-region_low regions c held here = elim (cases_lt c (length regions)) [
-  | inl less ↦ less
-  | inr high ↦ absurd (let clash : Some held ≡ None = here ∙ get_or_past regions c None high in cc)
-]
-
--- where there was no region there is none
-pub none_taken : (old new : List (Option Held)) (c : ℕ) → new ≡ slice_set old c None → None ≡ region_in old c → (d : ℕ)
-    → region_in new d ≡ region_in old d
-none_taken old new c taken none d = elim (cases_lt c (length old)) [
-  | inl low ↦
-      ap (λ (rs : List (Option Held)). region_in rs d) taken
-      ∙ (get_or-slice_set old c d None None low ∙ by (tested (d == c)))
-  | inr high ↦ ap (λ (rs : List (Option Held)). region_in rs d) (taken ∙ set_past old c None high)
-]
-  where
-    by : ((d == c) ≡ true) ⊎ ((d == c) ≡ false) → (if d == c then None else region_in old d) ≡ region_in old d
-    by (inl e) = rw e (none ∙ ap (region_in old) (sym (eqb-true d c e)))
-    by (inr e) = rw e refl
 
 -- ---- class by class
 

@@ -9,3 +9,6 @@ pub mod KeptLemmas
 pub mod CuttingLemmas
 pub mod HeldLemmas
 pub mod ListedLemmas
+pub mod IdleLemmas
+pub mod ProgramsLemmas
+pub mod ToldReachedLemmas

@@ -1,7 +1,6 @@
 -- The place of the object that a value refers to, and lists to which places were added.
 use Rattle.std.proofs.Common.{◌≡◌, ◌∙◌, ◌⊎◌, ◌↔◌, inl, inr, ℕ, ◌+◌, ◌<◌, ◌≤◌, true, List, [], ◌∷◌, ◌++◌, length, take}
-use Rattle.std.proofs.Common.{get_or}
-use Rattle.std.proofs.Common.{is_some, Option, Some, None, option_map, slice_get, sym, ap, subst, arith}
+use Rattle.std.proofs.Common.{get_or, is_some, Option, Some, None, option_map, slice_get, sym, ap, subst, arith}
 use Rattle.std.proofs.lemmas.Bool.{cases_lt}
 use Rattle.std.proofs.lemmas.List.{take_more, take_all}
 use Rattle.std.specs.List.{All}
@@ -20,19 +19,13 @@ use Rattle.program.specs.Tables.{Tables, statics_if, statics_in}
 use Rattle.place_set.specs.declared.set.Place.{Place}
 use Rattle.place_set.specs.steps.Adds.{Adds}
 use Rattle.place_set.proofs.AddsLemmas.{adds_none, adds_then, adds_same}
-use Rattle.evaluator.specs.declared.regions.Region.{Region as Held}
-use Rattle.evaluator.specs.Regions.{region_of, region_in, environment_of}
+use Rattle.region_shape.specs.declared.regions.Region.{Region as Held}
+use Rattle.region_shape.specs.Regions.{region_of, region_in, environment_of}
 use Rattle.object_graph.specs.declared.name_set.ObjectName.{ObjectName}
 use Rattle.object_graph.specs.Reached.{reference_to}
 use Rattle.object_graph.specs.steps.Places.{row_in, name_in, Ascends, IsPlaceOf, HoldPlace, IsInFields, IsInStaticsOf}
 use Rattle.object_graph.specs.steps.Places.{HoldsPlace}
 use Rattle.object_graph.proofs.RowLemmas.{standing, one_index, found_in}
-
-pub same_reference : (x y : ObjectName) → reference_to x ≡ reference_to y → x ≡ y
-same_reference x y e =
-    let class : x.class ≡ y.class = cc in
-    let number : x.number ≡ y.number = cc in
-    λ i. record { class = class i; number = number i }
 
 place_is : (x y : Place) → x.row ≡ y.row → x.index ≡ y.index → x ≡ y
 place_is x y p q = λ i. record { row = p i; index = q i }

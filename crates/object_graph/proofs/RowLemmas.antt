@@ -8,8 +8,8 @@ use Rattle.vm_state.specs.Objects.{ObjectRow, AscendsFrom, or_later, object_in}
 use Rattle.vm_state.specs.steps.Objects.{if_numbered, object_at_place}
 use Rattle.vm_state.proofs.ListLemmas.{tested}
 use Rattle.vm_state.proofs.ObjectLemmas.{found_at}
-use Rattle.evaluator.specs.declared.regions.Region.{Region as Held}
-use Rattle.evaluator.specs.Regions.{region_of, region_in, environment_of}
+use Rattle.region_shape.specs.declared.regions.Region.{Region as Held}
+use Rattle.region_shape.specs.Regions.{region_of, region_in, environment_of}
 use Rattle.object_graph.specs.declared.name_set.ObjectName.{ObjectName}
 use Rattle.object_graph.specs.Reached.{object_among, object_of}
 use Rattle.object_graph.specs.steps.Places.{row_of, row_in, Ascends}

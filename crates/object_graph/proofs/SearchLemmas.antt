@@ -10,8 +10,8 @@ use Rattle.vm_state.specs.declared.value.Value.{Value}
 use Rattle.program.specs.Tables.{Tables}
 use Rattle.place_set.specs.declared.set.Place.{Place}
 use Rattle.place_set.specs.steps.Adds.{Adds}
-use Rattle.evaluator.specs.declared.regions.Region.{Region as Held}
-use Rattle.evaluator.specs.Regions.{environment_of}
+use Rattle.region_shape.specs.declared.regions.Region.{Region as Held}
+use Rattle.region_shape.specs.Regions.{environment_of}
 use Rattle.object_graph.specs.declared.name_set.ObjectName.{ObjectName}
 use Rattle.object_graph.specs.Reached.{reference_to, IsReached, static, held}
 use Rattle.object_graph.specs.steps.Places.{row_in, Ascends, name_in, IsPlaceOf, IsInStaticsOf, HoldsPlace, IsReachedAt}

@@ -8,8 +8,8 @@ use Rattle.semantics.specs.Settling.{constant_region}
 use Rattle.semantics.specs.Images.{Image as Start}
 use Rattle.program.specs.Tables.{Tables}
 use Rattle.machine.specs.Linked.{program_of}
-use Rattle.evaluator.specs.declared.regions.Region.{Region as Held}
-use Rattle.evaluator.specs.Regions.{environment_of}
+use Rattle.region_shape.specs.declared.regions.Region.{Region as Held}
+use Rattle.region_shape.specs.Regions.{environment_of}
 
 pub record ImageTables : Type 0 where
   pub program : Tables

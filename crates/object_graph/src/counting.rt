@@ -19,7 +19,7 @@ pub(crate) fn count_of(objects: &Row) -> u32
 }
 
 /// How many static fields with values a class has: at most 65,535, and none where there is no such class.
-pub(crate) fn static_count(program: &Program, class: u32) -> u32
+pub fn static_count(program: &Program, class: u32) -> u32
     ensures { result ≡ length (statics_in program.now class) }
 {
     let _classes = program.classes();

@@ -2,11 +2,11 @@
 
 ghost use Rattle.std.specs.Prelude.{◌≡◌, ◌≢◌, ◌++◌, ℕ, ◌<◌, ◌≤◌, IfOk, OnOk};
 ghost use Rattle.vm_state.specs.declared.object.Object.{Object};
-ghost use Rattle.evaluator.specs.Regions.{region_in};
+ghost use Rattle.region_shape.specs.Regions.{region_in};
 ghost use Rattle.object_graph.specs.steps.Kept.{only_if, kept_from, kept_row, kept_region};
 
-use evaluator::regions::{Region, Regions};
 use place_set::PlaceSet;
+use region_shape::regions::{Region, Regions};
 use std::alloc::{AllocError, Global};
 use vm_state::heap::Row;
 use vm_state::object::Object;

@@ -1,7 +1,7 @@
 //! An image.
 
 ghost use Rattle.std.specs.Prelude.{◌≡◌, length, option_map, IfOk};
-ghost use Rattle.evaluator.specs.Regions.{region_of, environment_of};
+ghost use Rattle.region_shape.specs.Regions.{region_of, environment_of};
 ghost use Rattle.program.specs.Tables.{statics_in};
 ghost use Rattle.region_shape.specs.Wholes.{AreWhole};
 ghost use Rattle.object_graph.specs.Cuts.{AreReached, IsCutOf};
@@ -10,8 +10,8 @@ ghost use Rattle.object_graph.specs.Images.{object_count, AreSmall};
 use crate::counting::{count_of, static_count};
 use crate::cutting::cut_classes;
 use crate::reach::reached;
-use evaluator::regions::{Region, Regions};
 use program::Program;
+use region_shape::regions::{Region, Regions};
 use std::alloc::{AllocError, Global};
 use std::marker::Model;
 
@@ -23,7 +23,7 @@ pub struct Image {
 }
 
 impl Model for Image {
-    ghost use Rattle.evaluator.specs.Regions.{environment_of as regions_of};
+    ghost use Rattle.region_shape.specs.Regions.{environment_of as regions_of};
     ghost use Rattle.region_shape.specs.Wholes.{AreWhole as HasWhole};
     ghost use Rattle.object_graph.specs.Cuts.{AreReached as HasReached};
     ghost use Rattle.object_graph.specs.Images.{ImageTables, AreSmall as HasSmall};

@@ -3,6 +3,7 @@
 
 mod counting;
 mod cutting;
+mod idle;
 mod image;
 pub mod laws;
 mod listing;
@@ -10,6 +11,8 @@ mod name_set;
 mod reach;
 mod rows;
 
+pub use counting::static_count;
+pub use idle::first_idle;
 pub use image::{Image, gather};
 pub use listing::reachable;
 pub use name_set::{NameSet, ObjectName};

@@ -2,7 +2,7 @@
 
 ghost use Rattle.std.specs.Prelude.{◌≡◌, ◌↔◌, ◌++◌, [], IfOk, OnOk};
 ghost use Rattle.std.specs.List.{Contains};
-ghost use Rattle.evaluator.specs.Regions.{environment_of};
+ghost use Rattle.region_shape.specs.Regions.{environment_of};
 ghost use Rattle.object_graph.specs.declared.name_set.ObjectName.{ObjectName as Name};
 ghost use Rattle.object_graph.specs.Names.{AreDistinct};
 ghost use Rattle.object_graph.specs.Reached.{IsReached};
@@ -12,8 +12,8 @@ ghost use Rattle.object_graph.specs.steps.Places.{row_in, Ascends};
 use crate::image::Image;
 use crate::name_set::{NameSet, ObjectName};
 use crate::rows::{count_in, object_at};
-use evaluator::regions::Regions;
 use place_set::Place;
+use region_shape::regions::Regions;
 use std::alloc::{AllocError, Global};
 
 /// Adds the names of the objects of a class.

@@ -10,9 +10,9 @@ ghost use Rattle.object_graph.specs.steps.Places.{HoldsPlace, IsReachedAt};
 
 use crate::counting::static_count;
 use crate::rows::{object_at, place_named};
-use evaluator::regions::Regions;
 use place_set::{Place, PlaceSet};
 use program::Program;
+use region_shape::regions::Regions;
 use std::alloc::{AllocError, Global};
 use vm_state::classes::Fields;
 use vm_state::object::Slots;

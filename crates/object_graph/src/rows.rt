@@ -7,8 +7,8 @@ ghost use Rattle.vm_state.specs.Objects.{numbered_kept, object_in};
 ghost use Rattle.vm_state.specs.steps.Objects.{object_at_place};
 ghost use Rattle.object_graph.specs.steps.Places.{row_in, Ascends, IsPlaceOf};
 
-use evaluator::regions::Regions;
 use place_set::Place;
+use region_shape::regions::Regions;
 use vm_state::kept::Kept;
 use vm_state::value::Value;
 

@@ -1,16 +1,13 @@
 -- Classes that are forced and demanded.
-use Rattle.std.proofs.Common.{◌≡◌, ℕ, ◌+◌, ◌<◌, ◌≤◌, ◌⊎◌, inl, inr, Bool, true, false, List, length}
-use Rattle.std.proofs.Common.{subst, arith, IsTrue, ◌↔◌}
+use Rattle.std.proofs.Common.{◌≡◌, ℕ, ◌<◌, ◌⊎◌, inl, inr, Bool, List}
 use Rattle.std.specs.List.{All}
 use Rattle.std.specs.Prelude.{Result, Ok, Err, IfErr, OnOk}
-use Rattle.std.proofs.lemmas.Bool.{cases_lt}
 use Rattle.std.proofs.lemmas.Result.{IfErr-weaker}
 use Rattle.loading.specs.Families.{Family}
 use Rattle.options.specs.Classes.{AreClasses, IsDemanded}
-use Rattle.options.specs.Faults.{IsBoth, IsKnown, AreApart, IsOfBoth, both}
+use Rattle.options.specs.Faults.{IsBoth, IsKnown, IsOfBoth, both}
 use Rattle.options.specs.Faults.{PatternsFail, DemandFails, unmatched, overlapping}
 use Rattle.options.specs.steps.Marks.{IsMarked}
-use Rattle.options.proofs.ChainLemmas.{marked_within}
 use Rattle.options.specs.declared.fault.OptionFault.{OptionFault}
 use Rattle.options.specs.declared.fault.OptionFault.TheVariants.{Memory}
 
@@ -19,27 +16,9 @@ use Rattle.options.specs.declared.fault.OptionFault.TheVariants.{Memory}
 abbrev pub NoneBelow : List Bool → List Bool → ℕ → Type 0
 NoneBelow marks forced n = (c : ℕ) → c < n → ¬ IsBoth (IsMarked marks) forced c
 
-pub none_more : (marks forced : List Bool) (n : ℕ) (b : Bool) → (IsTrue b ↔ IsBoth (IsMarked marks) forced n)
-    → b ≡ false → NoneBelow marks forced n → NoneBelow marks forced (n + 1)
-none_more marks forced n b told not_so before c small both-are = elim (cases_lt c n) [
-  | inl below ↦ before c below both-are
-  | inr past ↦
-      let same : c ≡ n = omega arith in
-      let is : b ≡ true = told.1 (subst (IsBoth (IsMarked marks) forced) same both-are) in
-      cc
-]
-
-pub none_both : (marks forced : List Bool) (n : ℕ) → length marks ≤ n → NoneBelow marks forced n
-    → AreApart (IsMarked marks) forced
-none_both marks forced n end before c both-are =
-    let small = marked_within marks c both-are.0 in before c (omega arith) both-are
-
 -- ---- of one kind, and so of another
 
 module _ (marks forced : List Bool) (P : ℕ → Type 0) (same : AreClasses marks P) where
-  pub apart_too : AreApart (IsMarked marks) forced → AreApart P forced
-  apart_too apart c both-are = apart c ((same c).1 both-are.0, both-are.1)
-
   pub of_both_too : (family : Family) (fault : OptionFault) → IsOfBoth family (IsMarked marks) forced fault
       → IsOfBoth family P forced fault
   of_both_too family _ (both {class} {name} least is) = both (record {

@@ -1,5 +1,5 @@
 -- Marks along superclasses.
-use Rattle.std.proofs.Common.{◌≡◌, ℕ, zero, suc, ◌+◌, ◌<◌, ◌≤◌, ◌⊎◌, inl, inr, Bool, List, [], ◌∷◌, length}
+use Rattle.std.proofs.Common.{◌≡◌, ℕ, ◌+◌, ◌<◌, ◌≤◌, ◌⊎◌, inl, inr, Bool, List, [], length}
 use Rattle.std.proofs.Common.{take, Some, slice_get, refl, sym, ◌∙◌, subst, arith}
 use Rattle.std.specs.List.{Contains}
 use Rattle.std.proofs.lemmas.Bool.{cases_lt}
@@ -12,11 +12,6 @@ use Rattle.options.specs.steps.Marks.{IsMarked, Grow, HasMarkedSuperclass, AreBe
 use Rattle.options.proofs.ListLemmas.{among, among_more, into_among}
 
 -- ---- classes of the family
-
-pub marked_within : (marks : List Bool) (class : ℕ) → IsMarked marks class → class < length marks
-marked_within [] class is = cc
-marked_within (mark ∷ marks) zero is = omega arith
-marked_within (mark ∷ marks) (suc class) is = let rest = marked_within marks class is in omega (arith, rest)
 
 none_in : (x : ℕ) → Contains [] x → ⊥
 none_in x held = omega (arith, held.1)

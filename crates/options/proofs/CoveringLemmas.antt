@@ -1,12 +1,11 @@
 -- Places that runs cover, and the classes whose names stand there.
 use Rattle.std.proofs.Common.{◌≡◌, ◌≢◌, ℕ, ◌+◌, ◌<◌, ◌≤◌, ◌⊎◌, inl, inr, Bool, List, length, set}
-use Rattle.std.proofs.Common.{get_or, take, Some, refl, sym, ap, ◌∙◌, subst, arith, ◌↔◌, slice_get}
+use Rattle.std.proofs.Common.{get_or, take, Some, sym, ap, ◌∙◌, subst, arith, ◌↔◌, slice_get}
 use Rattle.std.proofs.Common.{max}
 use Rattle.std.specs.List.{All}
 use Rattle.std.specs.String.{string_bytes}
 use Rattle.std.proofs.lemmas.Bool.{cases_eq, cases_lt}
 use Rattle.std.proofs.lemmas.List.{get_or-set_same, get_or-set_other, length-set, take_all}
-use Rattle.std.proofs.lemmas.List.Elements.{All-nil}
 use Rattle.std.proofs.lemmas.Option.{same_Some, slice_get_within, slice_get_cases}
 use Rattle.options.specs.Patterns.{spelled}
 use Rattle.options.specs.steps.Marks.{IsMarked, Grow}
@@ -18,7 +17,7 @@ use Rattle.options.specs.steps.Texts.{Text}
 use Rattle.options.specs.declared.fault.OptionFault.{OptionFault}
 use Rattle.options.specs.declared.fault.OptionFault.TheVariants.{Memory, Unknown}
 use Rattle.options.specs.declared.sorted_names.DottedName.{DottedName}
-use Rattle.options.specs.declared.sorted_names.Run.{Run}
+use Rattle.options.specs.declared.sorted_names.NameRange.{NameRange}
 use Rattle.options.proofs.ListLemmas.{all_more, among, among_more, into_among}
 
 slice_get_there : {A : Type 0} (xs : List A) (i : ℕ) → i < length xs → (x : A) × (slice_get xs i ≡ Some x)
@@ -29,7 +28,7 @@ slice_get_there xs i small = elim (slice_get_cases xs i).1 [
 
 -- ---- one run more
 
-module _ (old : List ℕ) (run : Run) (small : run.first < length old) where
+module _ (old : List ℕ) (run : NameRange) (small : run.first < length old) where
   pub covered_more : get_or old run.first 0 < run.end → CoversMore old (set old run.first run.end) (IsInRun run)
   covered_more longer =
       record { len = length-set old run.first run.end; places = λ i. (to i, from i) }
@@ -62,7 +61,7 @@ module _ (old : List ℕ) (run : Run) (small : run.first < length old) where
 
 -- ---- what a pattern matches, and the first patterns do
 
-pub matched_more : (names : List DottedName) (pattern : List ℕ) (run : Run) (old new : List ℕ)
+pub matched_more : (names : List DottedName) (pattern : List ℕ) (run : NameRange) (old new : List ℕ)
     → length old ≡ length names → IsRunOf names (spelled pattern) run → CoversMore old new (IsInRun run)
     → CoversMore old new (IsMatchedAt names pattern)
 matched_more names pattern run old new len is more =
@@ -80,37 +79,24 @@ matched_more names pattern run old new len is more =
     from i (inl was) = (more.places i).1 (inl was)
     from i (inr (n, at, begins)) = (more.places i).1 (inr ((is.places i n at).1 begins))
 
-pub known_by_run : (names : List DottedName) (pattern : List ℕ) (run : Run) → IsRunOf names (spelled pattern) run
+pub known_by_run : (names : List DottedName) (pattern : List ℕ) (run : NameRange) → IsRunOf names (spelled pattern) run
     → run.first < run.end → IsKnownIn names pattern
 known_by_run names pattern run is some =
     let at = slice_get_there names run.first (omega (arith, some, is.within)) in
     (run.first, (at.0, at.1, (is.places run.first at.0 at.1).0 (omega arith, some)))
 
-pub unknown_by_run : (names : List DottedName) (pattern : List ℕ) (run : Run) → IsRunOf names (spelled pattern) run
+pub unknown_by_run : (names : List DottedName) (pattern : List ℕ) (run : NameRange) → IsRunOf names (spelled pattern) run
     → run.end ≤ run.first → IsKnownIn names pattern → ⊥
 unknown_by_run names pattern run is none (i, (n, at, begins)) =
     (let one = (is.places i n at).1 begins in absurd (omega (arith, one.0, one.1, none)))
 
-pub of_unknown : (names : List DottedName) (pattern : List ℕ) (run : Run) (fault : OptionFault)
+pub of_unknown : (names : List DottedName) (pattern : List ℕ) (run : NameRange) (fault : OptionFault)
     → IsRunOf names (spelled pattern) run → run.end ≤ run.first
     → (fault ≡ Memory) ⊎ ((text : Text) × (string_bytes text ≡ pattern) × (fault ≡ Unknown text))
     → (fault ≡ Memory) ⊎ IsOfUnknown names pattern fault
 of_unknown names pattern run fault is none (inl memory) = inl memory
 of_unknown names pattern run fault is none (inr (text, copy, same)) =
     inr (subst (IsOfUnknown names pattern) (sym same) (of_text copy (unknown_by_run names pattern run is none)))
-
-pub none_covered_yet : (names : List DottedName) (patterns : List (List ℕ)) (ends : List ℕ)
-    → AreCoveredBy names patterns ends ends 0
-none_covered_yet names patterns ends = record {
-  known = All-nil (IsKnownIn names);
-  covers = record {
-    len = refl;
-    places = λ i. (
-      λ is. inl is,
-      λ either. elim either [ inl was ↦ was | inr some ↦ absurd (omega (arith, some.1.1)) ],
-    );
-  };
-}
 
 module _ (names : List DottedName) (patterns : List (List ℕ)) (first old new : List ℕ) (n : ℕ) (pattern : List ℕ)
     (at : slice_get patterns n ≡ Some pattern) (before : AreCoveredBy names patterns first old n)
@@ -170,19 +156,6 @@ module _ (names : List DottedName) (patterns : List (List ℕ)) (first now : Lis
       done.covers
 
 -- ---- the classes at covered places
-
-pub none_marked_yet : (names : List DottedName) (ends : List ℕ) (marks : List Bool)
-    → AreMarkedTo names ends marks marks 0 0
-none_marked_yet names ends marks = record {
-  end = λ i. (λ is. absurd (omega (arith, is)), λ some. absurd (omega (arith, some.1)));
-  marks = record {
-    len = refl;
-    marks = λ c. (
-      λ is. inl is,
-      λ either. elim either [ inl was ↦ was | inr some ↦ absurd (omega (arith, some.2)) ],
-    );
-  };
-}
 
 module _ (names : List DottedName) (ends : List ℕ) (first old : List Bool) (count reach more : ℕ)
     (before : AreMarkedTo names ends first old count reach) (is : more ≡ max (get_or ends count 0) reach) where

@@ -1,12 +1,11 @@
 -- Lists, place by place.
 use Rattle.std.proofs.Common.{◌≡◌, ℕ, ◌+◌, ◌<◌, List, [], ◌∷◌, ◌++◌, length, take, map, Some}
 use Rattle.std.proofs.Common.{slice_get, subst}
-use Rattle.std.proofs.Common.{get_or, sym, ap, ◌∙◌, Bor, zero, suc, ◌⊎◌, inl, inr, arith, drop}
+use Rattle.std.proofs.Common.{get_or, sym, ap, ◌∙◌, Bor, zero, suc, ◌⊎◌, inl, inr, arith}
 use Rattle.std.specs.List.{All, Contains}
 use Rattle.std.proofs.lemmas.List.Elements.{All-more}
 use Rattle.std.proofs.lemmas.List.{take_more}
 use Rattle.std.proofs.lemmas.Option.{slice_get_within, slice_get-get_or, get_or_from_slice_get, same_Some}
-use Rattle.std.proofs.lemmas.Grind.{common_steps}
 use Rattle.std.proofs.lemmas.Bool.{cases_lt}
 use Rattle.loading.proofs.PlaceLemmas.{map_push, mapped_at, place_in, contains_at}
 
@@ -71,9 +70,3 @@ among_more {A} xs i y x at held =
           let same : here.0 ≡ i = omega (arith, here.1) in
           inr (same_Some x y (sym here.2 ∙ ap (slice_get xs) same ∙ at))
     ]
-
--- ---- a vector whose slice was written
-
-pub written : {A : Type 0} (n : ℕ) (items new : List A) → n ≡ length items → length new ≡ length items
-    → take n (new ++ drop (length new) items) ≡ new
-written n items new is same = grind (arith, common_steps)

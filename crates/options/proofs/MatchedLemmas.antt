@@ -26,7 +26,7 @@ use Rattle.options.proofs.SortedNamesLemmas.{begins_in, in_begins}
 
 -- ---- by names is by classes
 
-named_within : (family : Family) (c : ℕ) (name : List ℕ) → name_in family c ≡ Some name → c < length family
+pub named_within : (family : Family) (c : ℕ) (name : List ℕ) → name_in family c ≡ Some name → c < length family
 named_within family c name = by (slice_get family c) refl
   where
     by : (o : Option GivenClass) → slice_get family c ≡ o → option_map name_of (file_of o) ≡ Some name

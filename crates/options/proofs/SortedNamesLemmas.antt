@@ -20,7 +20,7 @@ use Rattle.loading.specs.Names.{name_of, Precedes}
 use Rattle.loading.proofs.PlaceLemmas.{map_push}
 use Rattle.options.specs.Patterns.{dot_of, dotted, IsIn, whole, within}
 use Rattle.options.specs.declared.sorted_names.DottedName.{DottedName}
-use Rattle.options.specs.declared.sorted_names.Run.{Run}
+use Rattle.options.specs.declared.sorted_names.NameRange.{NameRange}
 use Rattle.options.specs.steps.Names.{ended, Begins, AddsName, AreNames, IsNameIn, AreSorted, IsFirstFrom, IsRunOf}
 
 -- ---- a name, byte by byte
@@ -38,13 +38,6 @@ dotted_whole name i old new end all more =
     more ∙ ap (λ (l : List ℕ). l ++ 46 ∷ []) (all ∙ ap dotted (take_all i name end))
 
 -- ---- the names of classes, one by one
-
-pub no_names : (family : Family) → AreNames family 0 []
-no_names family = record {
-  count = refl;
-  each = λ n held. absurd (omega (arith, held.1));
-  whole = λ c small. absurd (omega (arith, small));
-}
 
 module _ (family : Family) (number : ℕ) (class : GivenClass) (at : slice_get family number ≡ Some class)
     (old new : List DottedName) (before : AreNames family number old)
@@ -188,7 +181,7 @@ not_before outer rest less = not_below_none rest (sym (same_front outer (46 ∷ 
 is_before : (outer rest : List ℕ) → Precedes (outer ++ 46 ∷ rest) (outer ++ 47 ∷ [])
 is_before outer rest = same_front outer (46 ∷ rest) (47 ∷ [])
 
-pub run_is : (names : List DottedName) (outer : List ℕ) (run : Run)
+pub run_is : (names : List DottedName) (outer : List ℕ) (run : NameRange)
     → IsFirstFrom names (outer ++ 46 ∷ []) run.first → IsFirstFrom names (outer ++ 47 ∷ []) run.end
     → IsRunOf names outer run
 run_is names outer run first end = record { within = end.within; places = λ i n at. (to i n at, from i n at) }

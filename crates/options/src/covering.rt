@@ -7,10 +7,10 @@ ghost use Rattle.options.specs.steps.Names.{IsInRun};
 ghost use Rattle.options.specs.steps.Covering.{CoversMore, IsCoveredClass};
 
 use crate::marks::mark;
-use crate::sorted_names::{DottedName, Run};
+use crate::sorted_names::{DottedName, NameRange};
 
 /// Covers the places of a run: where a run from its first place ends is no earlier than its own end.
-pub(crate) fn cover(run: Run, ends: &mut [usize])
+pub(crate) fn cover(run: NameRange, ends: &mut [usize])
     requires { run.first < length ends.old }
     ensures { CoversMore ends.old ends.new (IsInRun run) }
 {

@@ -15,7 +15,7 @@ ghost use Rattle.options.specs.declared.fault.OptionFault.TheVariants.{Memory, U
 use crate::covering::{cover, mark_covered};
 use crate::fault::OptionFault;
 use crate::patterns::Patterns;
-use crate::sorted_names::{DottedName, Run, run_of, sorted_names};
+use crate::sorted_names::{DottedName, NameRange, run_of, sorted_names};
 use classfile::{ClassName, ModifiedUtf8};
 use loading::family::Family;
 use std::alloc::{AllocError, Global};
@@ -156,7 +156,7 @@ fn cover_known(
 }
 
 /// Where the names stand that a pattern matches.
-fn matching_run(alloc: Global, names: &[DottedName], pattern: &str) -> Result<Run, AllocError>
+fn matching_run(alloc: Global, names: &[DottedName], pattern: &str) -> Result<NameRange, AllocError>
     requires { AreSorted names.now }
     ensures { IfOk result (IsRunOf names.now (spelled pattern.now)) }
 {

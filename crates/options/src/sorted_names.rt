@@ -23,7 +23,7 @@ pub(crate) struct DottedName {
 
 /// Places of names, one after the other.
 #[derive(Clone, Copy)]
-pub(crate) struct Run {
+pub(crate) struct NameRange {
     pub(crate) first: usize,
     /// The place after the last one.
     pub(crate) end: usize,
@@ -161,12 +161,16 @@ fn first_after(
 }
 
 /// Where the names stand that are this one, or begin with it and a dot.
-pub(crate) fn run_of(alloc: Global, names: &[DottedName], outer: &[u8]) -> Result<Run, AllocError>
+pub(crate) fn run_of(
+    alloc: Global,
+    names: &[DottedName],
+    outer: &[u8],
+) -> Result<NameRange, AllocError>
     requires { AreSorted names.now }
     ensures { IfOk result (IsRunOf names.now outer.now) }
 {
     let first = first_after(alloc, names, outer, b'.')?;
     // A slash is the byte that comes after a dot.
     let end = first_after(alloc, names, outer, b'/')?;
-    Ok(Run { first, end })
+    Ok(NameRange { first, end })
 }

@@ -1,15 +1,15 @@
 -- Marks of indices by row, beside the places that they mark.
 use Rattle.std.proofs.Common.{◌≡◌, ◌∙◌, ◌⊎◌, ◌↔◌, inl, inr, ℕ, ◌+◌, ◌<◌, ◌≤◌, ◌==◌, Bool, true, false, IsTrue}
-use Rattle.std.proofs.Common.{List, [], ◌∷◌, ◌++◌, length, get_or, set, replicate, Some, slice_get, Vec, Global, refl}
-use Rattle.std.proofs.Common.{◌-◌, take, sym, ap, subst, arith, eqb-true, eq-eqb, if◌then◌else◌}
+use Rattle.std.proofs.Common.{List, [], ◌∷◌, ◌++◌, length, get_or, set, Some, slice_get, Vec, Global, refl}
+use Rattle.std.proofs.Common.{◌-◌, sym, ap, subst, arith, eqb-true, eq-eqb, if◌then◌else◌}
 use Rattle.std.specs.List.{Contains}
 use Rattle.std.proofs.Math.ListN.{get_or-map}
 use Rattle.std.proofs.lemmas.Bool.{cases_lt}
-use Rattle.std.proofs.lemmas.List.{length_push, length-map, map-set, map-append, get_or_default, get_or_append_left}
-use Rattle.std.proofs.lemmas.List.{get_or_push, get_or_past, take_all}
+use Rattle.std.proofs.lemmas.List.{length_push, length-map, map-set, get_or_default, get_or_append_left}
+use Rattle.std.proofs.lemmas.List.{get_or_push, get_or_past}
 use Rattle.std.proofs.lemmas.List.Elements.{Contains-push, Contains-push_cases, Contains-append_left}
 use Rattle.std.proofs.lemmas.Option.{slice_get-get_or, slice_get_within, get_or_from_slice_get}
-use Rattle.place_set.proofs.ListLemmas.{tested, get_or-slice_set, get_or-filled}
+use Rattle.place_set.proofs.ListLemmas.{tested, get_or-slice_set}
 use Rattle.place_set.specs.declared.set.Place.{Place}
 use Rattle.place_set.specs.Distinct.{AreDistinct}
 use Rattle.place_set.specs.steps.Marks.{rows_of, marks_in, is_marked, HasRoom, Sets, AreMarks}
@@ -31,15 +31,6 @@ pub row_read : (rows : Rows) (c : ℕ) (row : Vec Bool Global) → c < length ro
 row_read rows c row low is =
     ap (λ (r : Vec Bool Global). r.items) is ∙ sym (get_or-map (λ (r : Vec Bool Global). r.items) rows c row)
     ∙ get_or_default (rows_of rows) c row.items [] (omega (arith, length-rows_of rows))
-
-pub row_added : (rows new : Rows) (row : Vec Bool Global) → new ≡ rows ++ row ∷ [] → row.items ≡ []
-    → MarkSame rows new
-row_added rows new row pushed empty x =
-    ap (λ (r : List Bool). marks_in r x.index)
-    (ap (λ (g : Rows). get_or (rows_of g) x.row []) pushed
-    ∙ ap (λ (g : List (List Bool)). get_or g x.row []) (map-append (λ (r : Vec Bool Global). r.items) rows (row ∷ []))
-    ∙ ap (λ (r : List Bool). get_or (rows_of rows ++ r ∷ []) x.row []) empty
-    ∙ get_or-filled (rows_of rows) 1 x.row [])
 
 -- the marks after one row has changed
 set_reads : (rows : Rows) (c : ℕ) (new : Vec Bool Global) (x : Place) → c < length rows
@@ -215,12 +206,3 @@ marks_set old mid new places more place same sets unmarked pushed are = rw pushe
       | inl old_one ↦ (sets x).1 (inl (same x ∙ (are.marked x).1 old_one))
       | inr e ↦ (sets x).1 (inr (sym e))
     ]
-
--- ---- a longer row
-
-pub row_longer : (row new : List Bool) (count : ℕ) → length row ≤ count
-    → new ≡ take count row ++ replicate (count - length row) false → (n : ℕ) → marks_in new n ≡ marks_in row n
-row_longer row new count short longer n =
-    ap (λ (r : List Bool). marks_in r n) (longer
-    ∙ ap (λ (r : List Bool). r ++ replicate (count - length row) false) (take_all count row short))
-    ∙ get_or-filled row (count - length row) n false

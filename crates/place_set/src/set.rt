@@ -70,7 +70,7 @@ impl PlaceSet {
         self.places.as_slice()
     }
 
-    /// The one that was found after so many others.
+    /// The one that was found after `index` others.
     pub fn at(&self, index: usize) -> Place
         requires { index < length self.now }
         ensures { slice_get self.now index ≡ Some result }

@@ -9,7 +9,7 @@ mod progress;
 
 ghost use Rattle.std.specs.Thread.{IsSend, IsSync};
 
-use cli::{End, Refusal, Status, Unwatched, command_holding};
+use cli::{CommandEnd, Refusal, Status, Unwatched, command_holding};
 use disk::Disk;
 use progress::Progress;
 use std::io::{self, ErrorKind, IsTerminal, Write};
@@ -75,7 +75,7 @@ where
         .collect(alloc)
         .map_err(|_| Stop::Memory)?;
     let words = words.as_slice();
-    let End {
+    let CommandEnd {
         status,
         out: _,
         held,
@@ -89,7 +89,7 @@ where
 }
 
 /// Does a command that tells nothing before its end.
-fn run_unwatched<R, W, E>(rt: &R, words: &[&str], out: W, errors: &mut E) -> End<W>
+fn run_unwatched<R, W, E>(rt: &R, words: &[&str], out: W, errors: &mut E) -> CommandEnd<W>
 where
     R: rt::Files + AllocGlobal + Threads + Wait + Sync,
     W: Write + Send + Drop,
@@ -100,7 +100,7 @@ where
 }
 
 /// Does a command. A build that is refused memory tells what it was at, if words are asked for.
-fn run_without_terminal<R, W, E>(rt: &R, words: &[&str], out: W, errors: &mut E) -> End<W>
+fn run_without_terminal<R, W, E>(rt: &R, words: &[&str], out: W, errors: &mut E) -> CommandEnd<W>
 where
     R: rt::Files + AllocGlobal + Threads + Wait + Sync,
     W: Write + Send + Drop,
@@ -127,7 +127,7 @@ fn run_on_terminal<R, W, E, P>(
     out: W,
     errors: &mut E,
     terminal: P,
-) -> End<W>
+) -> CommandEnd<W>
 where
     R: rt::Files + rt::Clock + AllocGlobal + Threads + Wait + Sync,
     W: Write + Send + Drop,
@@ -142,7 +142,13 @@ where
 }
 
 /// Does a build, while another thread tells on the terminal how far it has come.
-fn run_watched<R, W, E, P>(rt: &R, words: &[&str], out: W, errors: &mut E, terminal: P) -> End<W>
+fn run_watched<R, W, E, P>(
+    rt: &R,
+    words: &[&str],
+    out: W,
+    errors: &mut E,
+    terminal: P,
+) -> CommandEnd<W>
 where
     R: rt::Files + rt::Clock + AllocGlobal + Threads + Wait + Sync,
     W: Write + Send + Drop,
@@ -151,7 +157,7 @@ where
 {
     let progress = Progress::new(rt, terminal);
     let watch = || progress.tell();
-    let build = || -> End<W>
+    let build = || -> CommandEnd<W>
         requires handle { IsSync R.row }
         requires output { IsSend W.row }
         requires terminal { IsSend P.row }

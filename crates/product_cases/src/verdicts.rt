@@ -1,4 +1,4 @@
-//! What becomes of classes at build time.
+//! The verdicts on classes at build time.
 
 use crate::members::or_nothing;
 use built_in::class_id::ClassId;

@@ -19,3 +19,10 @@ pub mod AddedStringsLemmas
 pub mod SparseLemmas
 pub mod KeptConstantsLemmas
 pub mod LinksLemmas
+pub mod SameListsLemmas
+pub mod OneFamilyLemmas
+pub mod OneListOfStringsLemmas
+pub mod OneListOfSignaturesLemmas
+pub mod OneRuntimePoolLemmas
+pub mod OneImplementationLemmas
+pub mod OneProgramLemmas

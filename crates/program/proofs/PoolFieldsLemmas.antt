@@ -1,5 +1,5 @@
 -- What a linked program answers of fields and methods, from its run-time constant pools.
-use Rattle.std.proofs.Common.{◌≡◌, ◌≢◌, ℕ, zero, suc, List, [], ◌∷◌, Option, Some, None, Ok, Err, slice_get, length}
+use Rattle.std.proofs.Common.{◌≡◌, ℕ, zero, suc, List, [], ◌∷◌, Option, Some, None, Ok, Err, slice_get, length}
 use Rattle.std.proofs.Common.{refl, sym, ap, subst, cond, Bool, true, false, arith}
 use Rattle.std.specs.declared.result.Result.{Result}
 use Rattle.std.specs.List.{AllZip}
@@ -10,13 +10,8 @@ use Rattle.loading.specs.declared.given.GivenClass.{GivenClass}
 use Rattle.hierarchy.specs.declared.member.Field.{Field}
 use Rattle.hierarchy.specs.declared.member.Field.TheVariants as fields
 use Rattle.hierarchy.specs.declared.member.Unresolved.{Unresolved}
-use Rattle.hierarchy.specs.declared.member.Unresolved.TheVariants.{NoReference}
 use Rattle.program.specs.declared.class.Class.{Class}
-use Rattle.program.specs.declared.runtime_constant.MethodReference.{MethodReference}
 use Rattle.program.specs.declared.runtime_constant.RuntimeConstant.{RuntimeConstant}
-use Rattle.program.specs.declared.runtime_constant.RuntimeConstant.TheVariants as runtime
-use Rattle.program.specs.declared.runtime_constant.FieldKind.{FieldKind}
-use Rattle.program.specs.declared.runtime_constant.FieldTarget.{FieldTarget}
 use Rattle.program.specs.declared.runtime_constant.FieldTarget.TheVariants as targets
 use Rattle.program.specs.Fields.{static_of, static_number_of, final_of}
 use Rattle.program.specs.FieldTargets.{target_in, targeted}
@@ -27,6 +22,7 @@ use Rattle.program.specs.References.{ResolvesFieldAt, ResolvesMethodAt, Resolves
 use Rattle.program.specs.RuntimePool.{IsRuntimeConstant, IsRuntimePool}
 use Rattle.program.specs.Tables.{Tables, constant_at}
 use Rattle.program.specs.steps.PoolFields.{field_of, found_field, pool_field, pool_method}
+use Rattle.hierarchy.proofs.MemberTablesLemmas.{beside}
 
 -- ---- lists side by side
 
@@ -37,13 +33,6 @@ beside_none [] (y ∷ ys) i count none = absurd (omega (arith, count))
 beside_none (x ∷ xs) [] i count none = refl
 beside_none (x ∷ xs) (y ∷ ys) zero count none = absurd cc
 beside_none (x ∷ xs) (y ∷ ys) (suc i) count none = beside_none xs ys i (omega (arith, count)) none
-
-beside_some : {A B : Type 0} (xs : List A) (ys : List B) (i : ℕ) (x : A) → length xs ≡ length ys
-    → slice_get xs i ≡ Some x → (y : B) × (slice_get ys i ≡ Some y)
-beside_some [] ys i x count at = absurd cc
-beside_some (z ∷ xs) [] i x count at = absurd (omega (arith, count))
-beside_some (z ∷ xs) (y ∷ ys) zero x count at = (y, refl)
-beside_some (z ∷ xs) (y ∷ ys) (suc i) x count at = beside_some xs ys i x (omega (arith, count)) at
 
 pub zip_none : {A B : Type 0} (R : A → B → Type 0) (xs : List A) (ys : List B) (i : ℕ) → AllZip R xs ys
     → slice_get xs i ≡ None → slice_get ys i ≡ None
@@ -127,7 +116,7 @@ module _ (family : Family) (strings : List (List ℕ)) (f : ClassFile) (index : 
           → ResolvesFieldAt family f index (pool_field (slice_get pool index))
       by None at = rw (at, beside_none f.constants pool index (sym is.count) at) refl
       by (Some constant) at =
-          let held = beside_some f.constants pool index constant (sym is.count) at in
+          let held = beside f.constants pool index constant (sym is.count) at in
           subst (λ (o : Option RuntimeConstant). ResolvesFieldAt family f index (pool_field o)) (sym held.1)
           (field_said constant held.0 at (is.each index constant held.0 at held.1))
 
@@ -139,7 +128,7 @@ module _ (family : Family) (strings : List (List ℕ)) (f : ClassFile) (index : 
           → ResolvesMethodAt family f index (pool_method (slice_get pool index))
       by None at = rw (at, beside_none f.constants pool index (sym is.count) at) refl
       by (Some constant) at =
-          let held = beside_some f.constants pool index constant (sym is.count) at in
+          let held = beside f.constants pool index constant (sym is.count) at in
           subst (λ (o : Option RuntimeConstant). ResolvesMethodAt family f index (pool_method o)) (sym held.1)
           (method_said constant held.0 at (is.each index constant held.0 at held.1))
 
@@ -168,37 +157,3 @@ module _ (P : Tables) (fits : IsProgram P) (class index : ℕ) where
       by (Some given) at =
           let c = zip_some are P.family P.classes class given fits.classes at in
           rw (at, c.1) (method_in_pool P.family P.strings given.file index c.0.runtime_pool c.2.runtime_pool)
-
--- ---- constants that say nothing
-
-pub no_field : (o : Option RuntimeConstant) → ((k : FieldKind) (t : Result FieldTarget Unresolved)
-    → o ≢ Some (runtime.Field k t)) → pool_field o ≡ Err NoReference
-no_field None not = refl
-no_field (Some (runtime.Field k t)) not = absurd (not k t refl)
-no_field (Some runtime.Other) not = refl
-no_field (Some (runtime.Int n)) not = refl
-no_field (Some (runtime.Long n)) not = refl
-no_field (Some runtime.Float) not = refl
-no_field (Some runtime.Double) not = refl
-no_field (Some (runtime.String n)) not = refl
-no_field (Some (runtime.Class x)) not = refl
-no_field (Some runtime.MethodHandle) not = refl
-no_field (Some runtime.MethodType) not = refl
-no_field (Some (runtime.Method m)) not = refl
-no_field (Some (runtime.InterfaceMethod m)) not = refl
-
-pub no_method : (o : Option RuntimeConstant) → ((m : MethodReference) → o ≢ Some (runtime.Method m))
-    → ((m : MethodReference) → o ≢ Some (runtime.InterfaceMethod m)) → pool_method o ≡ Err NoReference
-no_method None not other = refl
-no_method (Some (runtime.Method m)) not other = absurd (not m refl)
-no_method (Some (runtime.InterfaceMethod m)) not other = absurd (other m refl)
-no_method (Some runtime.Other) not other = refl
-no_method (Some (runtime.Int n)) not other = refl
-no_method (Some (runtime.Long n)) not other = refl
-no_method (Some runtime.Float) not other = refl
-no_method (Some runtime.Double) not other = refl
-no_method (Some (runtime.String n)) not other = refl
-no_method (Some (runtime.Class x)) not other = refl
-no_method (Some runtime.MethodHandle) not other = refl
-no_method (Some runtime.MethodType) not other = refl
-no_method (Some (runtime.Field k t)) not other = refl

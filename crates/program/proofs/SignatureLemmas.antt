@@ -150,9 +150,6 @@ abbrev pub AreLeft : List ℕ → List FieldKind → List ℕ → Type 0
 AreLeft text kinds rest = (types : List (List ℕ)) (tail : List ℕ) → All IsFieldDescriptor types
     → text ≡ flat_map (λ p. p) types ++ 41 ∷ tail → Remaining types tail kinds rest
 
-pub all_left : (text : List ℕ) → AreLeft text [] text
-all_left text types tail each e = record { left = types; are_fields = each; spelled = e; kinds_are = refl }
-
 type_by : (types left : List (List ℕ)) (tail : List ℕ) (kinds : List FieldKind) (rest : List ℕ)
     → ends_parameters rest ≡ false → All IsFieldDescriptor left → rest ≡ flat_map (λ p. p) left ++ 41 ∷ tail
     → kinds ++ map field_kind left ≡ map field_kind types

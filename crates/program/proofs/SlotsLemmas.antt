@@ -235,12 +235,3 @@ module _ (family : Family) (fits : IsFamily family) (within : AreParentsWithin f
   before_length =
       sym (ap length (before_split family fits within c)
       ∙ length-append (slots_above family c) (built_in_kinds (superclass_in family c)))
-
-  pub own_room : length (slots_before family c) + length (own_kinds_if (file_in family c)) < 4294967296
-  own_room =
-      omega (
-        arith,
-        whole_few,
-        ap length (slots_whole family c),
-        length-append (slots_before family c) (own_kinds_if (file_in family c)),
-      )

@@ -12,3 +12,4 @@ pub mod Holders
 pub mod Signatures
 pub mod Handlers
 pub mod Strings
+pub mod Laws

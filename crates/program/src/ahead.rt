@@ -66,7 +66,7 @@ impl Model for MembersAhead {
 }
 
 impl MembersAhead {
-    /// Nothing resolved yet, with a place for each of so many entries.
+    /// Nothing resolved yet, with a place for each of `count` entries.
     fn new(alloc: Global, count: usize) -> Result<Self, AllocError>
         ensures { IfOk result (λ ahead. (index : ℕ) → ahead_at ahead index ≡ None) }
     {

@@ -89,7 +89,7 @@ impl StaticFields {
 /// The run-time constant pool of a class (JVMS 5.1), by the indices of its constant pool.
 #[derive(Drop)]
 pub struct RuntimePool {
-    /// Those that an instruction may name.
+    /// The constants that an instruction may name.
     constants: Sparse<RuntimeConstant>,
 }
 
@@ -127,7 +127,7 @@ fn constant_at(constants: &[RuntimeConstant], place: u16) -> RuntimeConstant
 }
 
 impl RuntimePool {
-    /// No constants yet, with room for so many.
+    /// No constants yet, with room for `count`.
     pub(crate) fn with_capacity(alloc: Global, count: usize) -> Result<Self, AllocError>
         ensures { IfOk result (λ pool. pool ≡ []) }
     {

@@ -29,7 +29,7 @@ impl EarlierStrings {
         }
     }
 
-    /// Notes where an entry of so many stands, if it is a String.
+    /// Notes where an entry of a pool of `count` stands, if it is a String.
     pub(crate) fn note(
         &mut self,
         constant: &Constant,

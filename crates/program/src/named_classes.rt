@@ -44,7 +44,7 @@ impl<'a> Drop for NamedClasses<'a> {
 }
 
 impl<'a> NamedClasses<'a> {
-    /// Those of the class file of a class.
+    /// The classes that the class file of a class names.
     pub(crate) fn of_file(
         alloc: Global,
         family: &'a Family,

@@ -17,7 +17,7 @@ pub(crate) struct Sparse<T> {
 }
 
 impl<T: Drop> Sparse<T> {
-    /// No entries, with room for so many.
+    /// No entries, with room for `count`.
     pub(crate) fn with_capacity(alloc: Global, count: usize) -> Result<Self, AllocError>
         ensures places { IfOk result (λ s. s.places.items ≡ []) }
         ensures items { IfOk result (λ s. s.items.items ≡ []) }

@@ -19,3 +19,4 @@ pub mod StaticsLemmas
 pub mod SamplesLemmas
 pub mod LawsLemmas
 pub mod FilesLemmas
+pub mod RegionsLemmas

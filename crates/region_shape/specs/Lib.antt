@@ -5,3 +5,4 @@ pub mod Texts
 pub mod Sizes
 pub mod Laws
 pub mod Wholes
+pub mod Regions

@@ -1,7 +1,9 @@
-//! The regions that class initialization methods leave have the shape that an image wants, and name objects alone that
-//! there are and strings alone that are the program's. Each function here is a law: its contract is what is proved, and
-//! calling it does nothing, but that `classes_are_from_files` looks at each class once.
+//! Regions of classes. Those that class initialization methods leave have the shape that an image wants, and name
+//! objects alone that there are and strings alone that are the program's. Each function here is a law: its contract is
+//! what is proved, and calling it does nothing, but that `classes_are_from_files` looks at each class once.
 #![tactic(auto)]
+
+pub mod regions;
 
 ghost use Rattle.std.specs.Prelude.{ℕ};
 ghost use Rattle.region_shape.specs.Laws.{SettledHaveShape, SettledAreWithin, SettledNameObjects, IsLinked, IsFromFile};

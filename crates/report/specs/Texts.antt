@@ -7,7 +7,7 @@ use Rattle.initializer_analysis.specs.declared.verdict.Reason.TheVariants.{Depen
 use Rattle.initializer_analysis.specs.declared.verdict.Verdict.{Verdict}
 use Rattle.initializer_analysis.specs.declared.verdict.Verdict.TheVariants.{Wave, Refused}
 use Rattle.initializer_analysis.specs.Words.{reason_word}
-use Rattle.evaluator.specs.Regions.{environment_of}
+use Rattle.region_shape.specs.Regions.{environment_of}
 use Rattle.object_graph.specs.Images.{ImageTables, object_count}
 
 abbrev pub printed_name : Option (List ℕ) → List ℕ

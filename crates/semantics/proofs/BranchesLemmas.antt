@@ -5,10 +5,6 @@ use Rattle.semantics.specs.Quiet.{QuietMove, Conduct, Leaves, at_hand, if_fixed}
 
 -- ---- tests
 
-pub on_either : {A Q : Type 0} (b : Bool) {x y z : A} → cond b x y ≡ z → (x ≡ z → Q) → (y ≡ z → Q) → Q
-on_either true is first second = first is
-on_either false is first second = second is
-
 -- where the other branch gives nothing
 pub on_true : {A Q : Type 0} (b : Bool) {o : Option A} {z : A} → cond b o None ≡ Some z → (o ≡ Some z → Q) → Q
 on_true true is first = first is

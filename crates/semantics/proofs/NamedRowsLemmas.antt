@@ -12,10 +12,8 @@ use Rattle.vm_state.specs.declared.ends.FaultKind.TheVariants.{Fault}
 use Rattle.vm_state.specs.Statics.{usable}
 use Rattle.vm_state.specs.SharedState.{Pool, SharedState, same_maker, pool_of, set_pool, set_region, with_field}
 use Rattle.vm_state.specs.SharedState.{with_slot, with_monitor, object_with_monitor, monitor_of, with_new, with_print}
-use Rattle.semantics.specs.Rows.{Outcome, Halt, Row, Ends, UseClass, ReadStatic, WriteStatic, AskClass, LookInto}
-use Rattle.semantics.specs.Rows.{Change, Make, UseMonitor, Print, Part, Named, part_at}
-use Rattle.semantics.specs.Rows.{Moved, Needs, Waits, lock_monitor, run_row}
-use Rattle.vm_state.specs.SharedState.{class_at}
+use Rattle.semantics.specs.Rows.{Outcome, Halt, Row, Ends, UseClass, ReadStatic, WriteStatic, Change, Make, UseMonitor}
+use Rattle.semantics.specs.Rows.{Print, Named, Moved, Needs, Waits, lock_monitor, run_row}
 use Rattle.semantics.specs.Programs.{Program}
 use Rattle.semantics.specs.Quiet.{fixed_of, fixed_at}
 use Rattle.semantics.specs.Lawful.{KeepsNamed, LeavesNamed}
@@ -70,14 +68,6 @@ module _ (P : Program) (t : ℕ) (maker : Maker) where
   after sh sh' row same on outcome new led m apart n vs is =
       on outcome new led m apart n vs
       (subst (λ (p : Pool). fixed_at P Named p n ≡ Some vs) (sym (same m apart)) is)
-
-  pub asked : (sh : SharedState) (x : Name) (next : Option ClassId → Row)
-      → Leaves sh (next (class_at (pool_of sh x.maker) x.number)) → Leaves sh (AskClass x next)
-  asked sh x next on = on
-
-  pub looked : (sh : SharedState) (x : Name) (part : Part) (next : Option (List Value) → Row)
-      → Leaves sh (next (part_at part (pool_of sh x.maker) x.number)) → Leaves sh (LookInto x part next)
-  looked sh x part next on = on
 
   -- ---- changes of slots
 

@@ -1,16 +1,12 @@
 -- Small facts on tests and options.
-use Rattle.std.proofs.Common.{◌≡◌, true, Some, refl}
+use Rattle.std.proofs.Common.{◌≡◌, true, Some}
 use Rattle.vm_state.specs.declared.value.Maker.{Maker}
 use Rattle.vm_state.specs.declared.value.Maker.TheVariants.{Class, Thread}
-use Rattle.std.proofs.Common.{ap, eqb-true, eq-eqb}
+use Rattle.std.proofs.Common.{ap, eqb-true}
 use Rattle.vm_state.specs.SharedState.{same_maker}
 
 pub from_some : {A : Type 0} {a b : A} → Some a ≡ Some b → a ≡ b
 from_some h = cc
-
-pub same_maker-refl : (m : Maker) → same_maker m m ≡ true
-same_maker-refl (Class c) = eq-eqb c c refl
-same_maker-refl (Thread t) = eq-eqb t t refl
 
 pub same_maker-true : (m n : Maker) → same_maker m n ≡ true → m ≡ n
 same_maker-true (Class c) (Class d) h = ap Class (eqb-true c d h)

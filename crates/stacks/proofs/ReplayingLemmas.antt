@@ -103,9 +103,6 @@ same_pair a b c d h = (ap first_in h, ap second_in h)
 
 -- ---- last runs
 
-pub last_none : (runs : List (ℕ × ℕ)) (last : List ℕ) → AreLastBelow 0 runs last
-last_none runs last t n i before = absurd (omega (arith, before))
-
 -- the place of the last run of thread t, which is not before this one
 abbrev HasLast : List (ℕ × ℕ) → List ℕ → ℕ → ℕ → Type 0
 HasLast runs last t i = (j : ℕ) × (i ≤ j) × (slice_get last t ≡ Some j) × ((m : ℕ) × (slice_get runs j ≡ Some (t, m)))

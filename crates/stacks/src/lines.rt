@@ -17,35 +17,38 @@ const TOLD: usize = 20;
 
 /// A place of a stack.
 #[derive(Clone, Copy)]
-enum Place<'a> {
+enum StackPlace<'a> {
     Frame(&'a Frame),
     /// An initialization that has no frame of its class initialization method above it.
     Initialization(u32),
 }
 
 /// The frames of a list, the innermost first.
-fn add_frames<'a>(places: &mut Vec<Place<'a>>, frames: &'a FrameList) -> Result<(), AllocError> {
+fn add_frames<'a>(
+    places: &mut Vec<StackPlace<'a>>,
+    frames: &'a FrameList,
+) -> Result<(), AllocError> {
     for frame in frames.outermost_first().iter().rev() {
-        places.push(Place::Frame(frame))?;
+        places.push(StackPlace::Frame(frame))?;
     }
     Ok(())
 }
 
 /// An initialization, unless its class initialization method is above it, and the frames under it.
 fn add_level<'a>(
-    places: &mut Vec<Place<'a>>,
+    places: &mut Vec<StackPlace<'a>>,
     level: &'a Level,
     runs: bool,
 ) -> Result<(), AllocError> {
     if !(level.initialization.begun && runs) {
-        places.push(Place::Initialization(level.initialization.class))?;
+        places.push(StackPlace::Initialization(level.initialization.class))?;
     }
     add_frames(places, &level.under)
 }
 
 /// All initializations, the highest first, with the frames under each. Above the highest one is some frame or none.
 fn add_levels<'a>(
-    places: &mut Vec<Place<'a>>,
+    places: &mut Vec<StackPlace<'a>>,
     levels: &'a Levels,
     runs: bool,
 ) -> Result<(), AllocError> {
@@ -57,10 +60,10 @@ fn add_levels<'a>(
 }
 
 /// The places of a stack, the innermost first.
-fn places_of<'a>(alloc: Global, frames: &'a Frames) -> Result<Vec<Place<'a>>, AllocError> {
+fn places_of<'a>(alloc: Global, frames: &'a Frames) -> Result<Vec<StackPlace<'a>>, AllocError> {
     let mut places = Vec::new(alloc);
     if let Some(segment) = &frames.segment {
-        places.push(Place::Frame(&segment.innermost))?;
+        places.push(StackPlace::Frame(&segment.innermost))?;
         add_frames(&mut places, &segment.callers)?;
     }
     if let Some(levels) = &frames.levels {
@@ -69,10 +72,14 @@ fn places_of<'a>(alloc: Global, frames: &'a Frames) -> Result<Vec<Place<'a>>, Al
     Ok(places)
 }
 
-fn place_text(alloc: Global, program: &Program, place: Place<'_>) -> Result<String, AllocError> {
+fn place_text(
+    alloc: Global,
+    program: &Program,
+    place: StackPlace<'_>,
+) -> Result<String, AllocError> {
     match place {
-        Place::Frame(frame) => frame_text(alloc, program, frame),
-        Place::Initialization(class) => {
+        StackPlace::Frame(frame) => frame_text(alloc, program, frame),
+        StackPlace::Initialization(class) => {
             let class = class_text(alloc, program, class)?;
             format!(in alloc; "initialization of {class}")
         }

@@ -1,4 +1,5 @@
-//! Cases of `thread_runner`: runs of several threads with gates, faults of sinks, and replays.
+//! Cases of `thread_runner`, runs of several threads with gates, faults of sinks, and replays, and of `wave_scheduler`,
+//! classes settled by several workers at gates, and by none.
 #![tactic(auto)]
 
 #[cfg(test)]
@@ -11,3 +12,9 @@ mod programs;
 mod replays;
 #[cfg(test)]
 mod runs;
+#[cfg(test)]
+mod settled;
+#[cfg(test)]
+mod worker_gates;
+#[cfg(test)]
+mod workers;

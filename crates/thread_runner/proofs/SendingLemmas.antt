@@ -1,15 +1,13 @@
 -- What was printed goes out.
-use Rattle.std.proofs.Common.{◌≡◌, ℕ, zero, suc, ◌+◌, ◌<◌, ◌≤◌, ◌++◌, List, [], ◌∷◌, Option, Some, None, refl, sym, ap}
-use Rattle.std.proofs.Common.{subst, ◌∙◌, arith, slice_get, take, drop, length, length-append, length-drop}
+use Rattle.std.proofs.Common.{◌≡◌, ℕ, ◌+◌, ◌≤◌, ◌++◌, List, [], ◌∷◌, Option, Some, None, refl, sym, ap}
+use Rattle.std.proofs.Common.{subst, ◌∙◌, arith, take, drop, length, length-append, length-drop}
 use Rattle.std.proofs.Common.{append_assoc}
-use Rattle.std.proofs.Common.{append-nil, ◌⊎◌, inl, inr, get_or}
-use Rattle.std.proofs.Math.Nat.{eq-or-lt_of_le}
 use Rattle.std.proofs.Math.Seq.{take-add, take-append-add, take-length}
 use Rattle.std.proofs.lemmas.List.{drop-append-le, take-append-le, take-append-drop}
-use Rattle.std.proofs.lemmas.Option.{slice_get-get_or}
 use Rattle.std.specs.Io.KnownBytes.{Appends}
 use Rattle.vm_state.specs.Output.{Print, text_of}
 use Rattle.thread_runner.specs.Sendings.{AreOfPrints, IsPlace, SendsOn, sent_of}
+use Rattle.sinks.proofs.AppendsLemmas.{appends_then}
 
 -- ---- the text of prints
 
@@ -71,18 +69,6 @@ prints_text ls count n is =
     ∙ (ap (λ k. take k (text_of first)) is ∙ take-length (text_of first)))
 
 -- ---- what goes out
-
-appends_none : (old : Option (List ℕ)) → Appends old old []
-appends_none None = tt
-appends_none (Some xs) = sym (append-nil xs)
-
-appends_then : (old now new : Option (List ℕ)) (first second : List ℕ) → Appends old now first
-    → Appends now new second → Appends old new (first ++ second)
-appends_then None now new first second a b = tt
-appends_then (Some xs) None new first second a b = absurd a
-appends_then (Some xs) (Some ys) None first second a b = absurd b
-appends_then (Some xs) (Some ys) (Some zs) first second a b =
-    b ∙ (ap (λ (r : List ℕ). r ++ second) a ∙ append_assoc xs first second)
 
 -- some more bytes of what comes behind the first prints
 pub rest_sent : (ps : List Print) (i at n : ℕ) (rest : List ℕ) (before after : Option (List ℕ)) → IsPlace ps i at
@@ -158,6 +144,3 @@ slice_sent before got after old new now more i n j m same grown place had there 
   sent_on before got after old new more i n j m grown place had
       (subst (λ (ls : List Print). SendsOn (text_of ls) (sent_of ls i n) (sent_of ls j m) got after) same sends),
 )
-
-pub nothing_sent : (got : Option (List ℕ)) → Appends got got []
-nothing_sent got = appends_none got

@@ -12,11 +12,11 @@ use vm_state::value::{Name, Value};
 
 /// Classes that were asked for, and found to be initialized.
 #[derive(Clone, Copy)]
-pub(crate) struct Asked<'a> {
+pub(crate) struct AskedStore<'a> {
     pub(crate) classes: &'a [u32],
 }
 
-impl<'a> Store for Asked<'a> {
+impl<'a> Store for AskedStore<'a> {
     ghost Answer = { Local };
 
     ghost State = { List ℕ };

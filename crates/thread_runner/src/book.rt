@@ -17,6 +17,7 @@ ghost use Rattle.thread_runner.specs.steps.Alone.{CanRunOn, RunsOn};
 use crate::done_set::DoneSet;
 use crate::front::FrontStretch;
 use crate::history::{Commit, History};
+use crate::last::Slice;
 use crate::origin::Origin;
 use crate::sending::{send_further, text_length};
 use crate::stretch::Stretch;
@@ -223,8 +224,8 @@ impl<O: Origin> Book<O> {
         self.history.room()
     }
 
-    /// Runs one thread on in the world itself, as long as it has a step, there were fewer than `steps`, and they
-    /// printed fewer than `bytes` bytes. It answers how many there were.
+    /// Runs one thread on in the world itself for a slice, as long as it has a step. It answers how many steps there
+    /// were.
     ///
     /// # Errors
     /// `AllocError` where memory is refused.
@@ -234,27 +235,26 @@ impl<O: Origin> Book<O> {
         program: &Program,
         table: &mut StepTable,
         thread: u32,
-        steps: u64,
-        bytes: u64,
+        slice: Slice,
     ) -> Result<(Book<O>, u64), AllocError>
-        requires { CanRunOn O.program program.now self.past thread steps table.old }
+        requires { CanRunOn O.program program.now self.past thread slice.steps table.old }
         ensures keeps { OnOk result (KeepsSteps program.now table.new) }
         ensures on { IfOk result (λ r. RunsOn thread self.past r.0.past r.1) }
         ensures sent { IfOk result (λ r. r.0.sent ≡ self.sent) }
         ensures part { IfOk result (λ r. r.0.part ≡ self.part) }
-        ensures most { IfOk result (λ r. r.1 ≤ steps) }
+        ensures most { IfOk result (λ r. r.1 ≤ slice.steps) }
     {
         let Book {
             history,
             prints,
-            bytes: within,
+            bytes,
         } = self;
-        match history.run_on(alloc, program, table, thread, steps, bytes) {
+        match history.run_on(alloc, program, table, thread, slice) {
             Ok((history, made)) => Ok((
                 Book {
                     history,
                     prints,
-                    bytes: within,
+                    bytes,
                 },
                 made,
             )),

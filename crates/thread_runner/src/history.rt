@@ -17,7 +17,7 @@ ghost use Rattle.thread_runner.specs.steps.Landings.{MayLand, landed};
 use crate::advance::{all_done, all_initialized, counted};
 use crate::front::FrontStretch;
 use crate::landing::{Landing, land};
-use crate::last::run_in;
+use crate::last::{Slice, run_in};
 use crate::origin::Origin;
 use crate::stretch::Stretch;
 use courses::step_table::StepTable;
@@ -327,8 +327,8 @@ impl<O: Origin> History<O> {
         self.limit.saturating_sub(self.steps)
     }
 
-    /// Runs one thread on in the world itself, as long as it has a step, there were fewer than `steps`, and they
-    /// printed fewer than `bytes` bytes. It answers how many there were.
+    /// Runs one thread on in the world itself for a slice, as long as it has a step. It answers how many steps there
+    /// were.
     ///
     /// # Errors
     /// `AllocError` where memory is refused.
@@ -338,13 +338,12 @@ impl<O: Origin> History<O> {
         program: &Program,
         table: &mut StepTable,
         thread: u32,
-        steps: u64,
-        bytes: u64,
+        slice: Slice,
     ) -> Result<(History<O>, u64), AllocError>
-        requires { CanRunOn O.program program.now self thread steps table.old }
+        requires { CanRunOn O.program program.now self thread slice.steps table.old }
         ensures keeps { OnOk result (KeepsSteps program.now table.new) }
         ensures on { IfOk result (λ r. RunsOn thread self r.0 r.1) }
-        ensures most { IfOk result (λ r. r.1 ≤ steps) }
+        ensures most { IfOk result (λ r. r.1 ≤ slice.steps) }
     {
         let History {
             world,
@@ -362,8 +361,7 @@ impl<O: Origin> History<O> {
             &mut journal,
             table,
             thread,
-            steps,
-            bytes,
+            slice,
         ) {
             Ok(made) => Ok((
                 History {

@@ -7,15 +7,15 @@ const SHARE: u32 = 64;
 
 /// Classes that a thread knows to be initialized, and for how many commits it does with them.
 #[derive(Drop)]
-pub(crate) struct Known {
+pub(crate) struct KnownClasses {
     done: DoneSet,
     left: u32,
 }
 
-impl Known {
+impl KnownClasses {
     /// None, until they are asked for.
-    pub(crate) fn none() -> Known {
-        Known {
+    pub(crate) fn none() -> KnownClasses {
+        KnownClasses {
             done: DoneSet::none(),
             left: 0,
         }

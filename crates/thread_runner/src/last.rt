@@ -18,8 +18,17 @@ use program::Program;
 use sinks::Sink;
 use std::alloc::{AllocError, Global};
 
-/// Runs one thread on in a world, as long as it has a step, there were fewer than `steps`, and they printed fewer than
-/// `bytes` bytes, and writes them into a journal. It answers how many there were.
+/// How far a thread that goes on alone may go before what it printed goes out.
+#[derive(Clone, Copy)]
+pub(crate) struct Slice {
+    /// As long as there were fewer steps.
+    pub(crate) steps: u64,
+    /// As long as they printed fewer bytes.
+    pub(crate) bytes: u64,
+}
+
+/// Runs one thread on in a world for a slice, as long as it has a step, and writes the steps into a journal. It answers
+/// how many there were.
 ///
 /// # Errors
 /// `AllocError` where memory is refused; the thread may have lost its frames then.
@@ -30,23 +39,22 @@ pub(crate) fn run_in(
     journal: &mut Vec<(u32, u64)>,
     table: &mut StepTable,
     thread: u32,
-    steps: u64,
-    bytes: u64,
+    slice: Slice,
 ) -> Result<u64, AllocError>
     requires thread { thread < length world.old.threads }
     requires keeps { KeepsSteps program.now table.old }
     requires runs { AreRuns journal.old.items }
-    requires fits { length (schedule_of journal.old.items) + steps < 2 ^ 64 }
+    requires fits { length (schedule_of journal.old.items) + slice.steps < 2 ^ 64 }
     ensures keeps { OnOk result (KeepsSteps program.now table.new) }
     ensures ahead { IfOk result
-        (λ made. RunsAhead (program_of program.now) thread steps bytes made world.old world.new) }
+        (λ made. RunsAhead (program_of program.now) thread slice.steps slice.bytes made world.old world.new) }
     ensures runs { OnOk result (AreRuns journal.new.items) }
     ensures schedule { IfOk result (λ made. schedule_of journal.new.items
         ≡ schedule_of journal.old.items ++ replicate made thread) }
     ensures threads { length world.new.threads ≡ length world.old.threads }
 {
     journal.reserve(1)?;
-    let made = world.run_alone(alloc, program, table, thread, steps, bytes)?;
+    let made = world.run_alone(alloc, program, table, thread, slice.steps, slice.bytes)?;
     add_some(journal, thread, made);
     Ok(made)
 }
@@ -173,7 +181,11 @@ impl<O: Session, S: Sink> Desk<O, S> {
             memory,
             failed,
         } = self;
-        match book.run_on(alloc, program, table, thread, most.min(STEPS), BYTES) {
+        let slice = Slice {
+            steps: most.min(STEPS),
+            bytes: BYTES,
+        };
+        match book.run_on(alloc, program, table, thread, slice) {
             Ok((book, made)) => {
                 let mut desk = Desk {
                     book,

@@ -5,7 +5,7 @@ ghost use Rattle.std.specs.Prelude.{◌≡◌, ◌<◌, length};
 use crate::desk::{Desk, Front, Next, Session};
 use crate::front::{FrontStretch, next_front};
 use crate::gate::{Gate, ask};
-use crate::known::Known;
+use crate::known::KnownClasses;
 use crate::tools::Tools;
 use program::Program;
 use sinks::Sink;
@@ -27,8 +27,9 @@ pub(crate) fn work<O: Session, S: Sink, G: Gate, R: Wait>(
 {
     let mut job = 0u64;
     let mut tools = Tools::<O>::new(alloc);
-    let mut known = Known::none();
-    let mut front = look(rt, alloc, program, desk, thread, known.is_old());
+    let mut known = KnownClasses::none();
+    let locked = LockedDesk { desk, moved };
+    let mut front = locked.look(rt, alloc, program, thread, known.is_old());
     for _ in rt.forever() {
         let Some(Front { frame, done }) = front else {
             moved.notify_all();
@@ -43,16 +44,7 @@ pub(crate) fn work<O: Session, S: Sink, G: Gate, R: Wait>(
             moved.notify_all();
             return;
         };
-        let (moves, next) = settle(
-            rt,
-            alloc,
-            program,
-            desk,
-            moved,
-            thread,
-            made,
-            known.is_old(),
-        );
+        let (moves, next) = locked.settle(rt, alloc, program, thread, made, known.is_old());
         if moves {
             job = job.wrapping_add(1);
         }
@@ -60,53 +52,61 @@ pub(crate) fn work<O: Session, S: Sink, G: Gate, R: Wait>(
     }
 }
 
-/// What a thread takes along from under the lock, while the run goes on.
-fn look<O: Session, S: Sink, R: Wait>(
-    rt: &R,
-    alloc: Global,
-    program: &Program,
-    desk: &Mutex<Desk<O, S>>,
-    thread: u32,
-    asks: bool,
-) -> Option<Front>
-    requires { thread < length O.start.threads }
-{
-    desk.lock(rt).look(alloc, program, thread, asks)
+/// The desk of a run under its lock, and where threads wait until another one has moved.
+#[derive(Drop)]
+struct LockedDesk<'a, O: Session, S: Sink> {
+    desk: &'a Mutex<Desk<O, S>>,
+    moved: &'a Condvar,
 }
 
-/// Commits a stretch, if there is one, and answers whether the thread has moved or leaves, and what it takes along if
-/// it goes on: the lock is taken once for both. A thread that waits sleeps until another one has moved or the run is
-/// over, and whoever moves or ends it wakes those that sleep, if there are any: to wake nobody is a call of the system,
-/// too.
-fn settle<O: Session, S: Sink, R: Wait>(
-    rt: &R,
-    alloc: Global,
-    program: &Program,
-    desk: &Mutex<Desk<O, S>>,
-    moved: &Condvar,
-    thread: u32,
-    made: Option<FrontStretch<O>>,
-    asks: bool,
-) -> (bool, Option<Front>)
-    requires program { program.now ≡ O.program }
-    requires thread { thread < length O.start.threads }
-{
-    let mut guard = desk.lock(rt);
-    let (moves, front) = match guard.turn(alloc, program, thread, made) {
-        Next::Sleep => {
-            let moves = guard.begin_sleep();
-            let mut guard = moved.wait_while(rt, guard, |desk| desk.is_same(moves));
-            guard.end_sleep();
-            return (false, guard.look(alloc, program, thread, asks));
-        }
-        Next::Leave => (true, None),
-        Next::Again => (false, guard.look(alloc, program, thread, asks)),
-        Next::Moved => (true, guard.look(alloc, program, thread, asks)),
-    };
-    let wakes = moves && guard.has_sleepers();
-    drop(guard);
-    if wakes {
-        moved.notify_all();
+impl<'a, O: Session, S: Sink> LockedDesk<'a, O, S> {
+    /// What a thread takes along from under the lock, while the run goes on.
+    fn look<R: Wait>(
+        &self,
+        rt: &R,
+        alloc: Global,
+        program: &Program,
+        thread: u32,
+        asks: bool,
+    ) -> Option<Front>
+        requires { thread < length O.start.threads }
+    {
+        self.desk.lock(rt).look(alloc, program, thread, asks)
     }
-    (moves, front)
+
+    /// Commits a stretch, if there is one, and answers whether the thread has moved or leaves, and what it takes along
+    /// if it goes on: the lock is taken once for both. A thread that waits sleeps until another one has moved or the
+    /// run is over, and whoever moves or ends it wakes those that sleep, if there are any: to wake nobody is a call of
+    /// the system, too.
+    fn settle<R: Wait>(
+        &self,
+        rt: &R,
+        alloc: Global,
+        program: &Program,
+        thread: u32,
+        made: Option<FrontStretch<O>>,
+        asks: bool,
+    ) -> (bool, Option<Front>)
+        requires program { program.now ≡ O.program }
+        requires thread { thread < length O.start.threads }
+    {
+        let mut guard = self.desk.lock(rt);
+        let (moves, front) = match guard.turn(alloc, program, thread, made) {
+            Next::Sleep => {
+                let moves = guard.begin_sleep();
+                let mut guard = self.moved.wait_while(rt, guard, |desk| desk.is_same(moves));
+                guard.end_sleep();
+                return (false, guard.look(alloc, program, thread, asks));
+            }
+            Next::Leave => (true, None),
+            Next::Again => (false, guard.look(alloc, program, thread, asks)),
+            Next::Moved => (true, guard.look(alloc, program, thread, asks)),
+        };
+        let wakes = moves && guard.has_sleepers();
+        drop(guard);
+        if wakes {
+            self.moved.notify_all();
+        }
+        (moves, front)
+    }
 }

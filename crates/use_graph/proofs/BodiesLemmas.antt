@@ -16,7 +16,7 @@ use Rattle.use_graph.proofs.NumbersLemmas.{push_cases}
 use Rattle.use_graph.proofs.DeedsLemmas.{needs_by, told_by}
 
 -- what was added to nothing
-from_none : {X : Type 0} (none new : List X) (Q : X → Type 0) → none ≡ []
+pub from_none : {X : Type 0} (none new : List X) (Q : X → Type 0) → none ≡ []
     → ((x : X) → Contains new x ↔ (Contains none x ⊎ Q x)) → (x : X) → Contains new x ↔ Q x
 from_none {X} none new Q empty all x = (
   λ p. elim ((all x).0 p) [

@@ -89,14 +89,14 @@ deeds_more P d k items old mid new i x deed small before push is =
 
 -- ---- places
 
-instruction_in : (o : Option Implementation) (place : ℕ)
+pub instruction_in : (o : Option Implementation) (place : ℕ)
     → instruction_of o place ≡ option_map (λ (item : Placed). item.instruction) (slice_get (body_in o) place)
 instruction_in None place = refl
 instruction_in (Some (implementations.Code code)) place = refl
 instruction_in (Some implementations.Abstract) place = refl
 instruction_in (Some implementations.Unsupported) place = refl
 
-pc_in : (o : Option Implementation) (place : ℕ)
+pub pc_in : (o : Option Implementation) (place : ℕ)
     → pc_of o place ≡ option_map (λ (item : Placed). item.pc) (slice_get (body_in o) place)
 pc_in None place = refl
 pc_in (Some (implementations.Code code)) place = refl

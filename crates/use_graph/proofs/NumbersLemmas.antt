@@ -44,14 +44,6 @@ member c k = record { class = c; index = k }
 
 -- ---- the methods of one class
 
-pub adds_none : (c : ℕ) (old : List DeclaredMember) → Adds c 0 old old
-adds_none c old = record {
-  len = omega arith;
-  keeps = λ n m e. e;
-  adds = λ k h. absurd (omega arith);
-  only = λ n d k e. inl e;
-}
-
 pub adds_one : (c i : ℕ) (old new : List DeclaredMember) → Adds c i old new
     → Adds c (i + 1) old (new ++ record { class = c; index = i } ∷ [])
 adds_one c i old new a = record {
@@ -81,15 +73,6 @@ adds_one c i old new a = record {
         ∙ ap (λ (j : ℕ). Some (member c j)) (sym same)
 
 -- ---- the methods of all
-
-pub numbers_none : (P : Tables) → NumbersBelow P 0 [] []
-numbers_none P = record {
-  classes = refl;
-  numbered = record { placed = λ n d k e. absurd cc };
-  only = λ n d k e. absurd cc;
-  all = λ d k low some. absurd (omega arith);
-  few = omega arith;
-}
 
 pub numbers_one : (P : Tables) (c : ℕ) (firsts : List ℕ) (old new : List DeclaredMember) → NumbersBelow P c firsts old
     → Adds c (method_count P c) old new → method_count P c ≤ 65535

@@ -9,7 +9,7 @@ use Rattle.built_in.specs.Methods.{key_of_member}
 use Rattle.vm_state.specs.declared.frame.Frame.{Frame}
 use Rattle.vm_state.specs.declared.frame.Activity.{Activity}
 use Rattle.vm_state.specs.declared.frame.Activity.TheVariants.{Method}
-use Rattle.semantics.specs.Bounds.{nothing, MayCall}
+use Rattle.semantics.specs.Bounds.{MayCall}
 use Rattle.semantics.specs.Bounds as bounds
 use Rattle.loading.specs.Families.{Family}
 use Rattle.hierarchy.specs.declared.member.Method.{Method as ResolvedMethod}
@@ -69,7 +69,7 @@ module _ (family : Family) (d k : ℕ) where
 -- ---- what is called
 
 -- a method that may run for a call, of this activity
-abbrev RunsFor : Tables → Callee → Activity → Type 0
+abbrev pub RunsFor : Tables → Callee → Activity → Type 0
 RunsFor P callee a = (e : ℕ) × (j : ℕ) × (a ≡ Method e j) × MayRunFor P callee e j × IsDeclared P e j
 
 declared_runs : (P : Tables) (callee : Callee) (d k : ℕ) (a : Activity) (b : Bool)
@@ -78,7 +78,7 @@ declared_runs : (P : Tables) (callee : Callee) (d k : ℕ) (a : Activity) (b : B
 declared_runs P callee d k a true there h may = (d, k, cc, may, there)
 declared_runs P callee d k a false there h may = absurd cc
 
-called_runs : (P : Tables) (callee : Callee) (x : ClassId) (a : Activity) → called_by P callee x ≡ Some a
+pub called_runs : (P : Tables) (callee : Callee) (x : ClassId) (a : Activity) → called_by P callee x ≡ Some a
     → RunsFor P callee a
 called_runs P callees.Nobody x a h = absurd cc
 called_runs P (callees.Exactly d k) x a h =
@@ -107,7 +107,7 @@ calls_run P c d k place b (Some o) at run may =
     (found.0, found.1, found.2, called run (place, o, at, found.3) found.4)
 
 -- a class initialization method that runs is declared
-initializer_declared : (P : Tables) (c m : ℕ) (f : Frame) → initializer_in P c ≡ Some m
+pub initializer_declared : (P : Tables) (c m : ℕ) (f : Frame) → initializer_in P c ≡ Some m
     → initializer_frame P c ≡ Some f → IsDeclared P c m
 initializer_declared P c m f has h =
     by (implementation_at P c m) refl (sym (ap (initializer_frame_of P c) has) ∙ h)

@@ -1,4 +1,4 @@
-//! What holds of a linked program by its code.
+//! Laws of a linked program by its code.
 
 ghost use Rattle.use_graph.specs.Soundness.{TableIsBounded, WorldsRunByCode, ParentsAreUses};
 ghost use Rattle.use_graph.specs.Soundness.{UsesAreWithin, StopsByCode};

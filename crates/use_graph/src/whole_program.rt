@@ -16,8 +16,8 @@ use std::alloc::{AllocError, Global};
 pub struct UseGraph {
     /// The methods of given classes.
     pub methods: MethodNumbers,
-    /// Of so many methods each has two vertices: one of its number, for itself, and one as far behind the last of
-    /// these, for what is selected by its name and descriptor.
+    /// Each method has two vertices: its number, for itself, and its number after those of all methods, for what is
+    /// selected by its name and descriptor.
     pub calls: Graph,
     /// By number of method.
     pub bodies: Vec<BodyUses>,
@@ -93,7 +93,7 @@ fn bodies_of(
 }
 
 impl UseGraph {
-    /// That of a program. It takes time near linear in the program.
+    /// The use graph of a program. It takes time near linear in the program.
     ///
     /// # Errors
     /// Where memory runs out.

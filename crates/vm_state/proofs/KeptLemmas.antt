@@ -11,10 +11,11 @@ use Rattle.std.proofs.lemmas.Option.{get_or_from_slice_get, slice_get-get_or, sl
 use Rattle.vm_state.specs.declared.object.Object.{Object}
 use Rattle.vm_state.specs.declared.object.Monitor.{Monitor}
 use Rattle.vm_state.specs.declared.object.Monitor.TheVariants.{Free}
+use Rattle.built_in.specs.declared.class_id.ClassId.{ClassId}
 use Rattle.built_in.specs.declared.class_id.ClassId.TheVariants.{Given}
 use Rattle.vm_state.specs.declared.kept.Kept.{Kept}
 use Rattle.vm_state.specs.Objects.{AscendsFrom, kept_of, numbered_kept, object_in, or_later}
-use Rattle.vm_state.specs.SharedState.{object_with_monitor, monitor_of, with_object}
+use Rattle.vm_state.specs.SharedState.{Pool, form_at, object_with_monitor, monitor_of, with_object}
 use Rattle.vm_state.specs.Pools.{pool_by}
 use Rattle.vm_state.specs.steps.Objects.{IsKept, numbers_of, numbers_in, objects_of, object_at_place, with_monitor_in}
 use Rattle.vm_state.specs.steps.Owners.{monitor_in, IsMonitorSet}
@@ -354,6 +355,24 @@ pub slots_of_kept : (o : Option Object) → option_map (λ (k : Kept). k.slots) 
     ≡ option_map (λ (x : Object). x.slots) o
 slots_of_kept None = refl
 slots_of_kept (Some o) = refl
+
+-- of what class an object is that is kept, and how many slots it has
+abbrev pub formed : ClassId → ℕ → Option (ClassId × ℕ)
+formed c n = Some (c, n)
+
+pub form_of_kept : (p : Pool) (n : ℕ) (k : Kept) (c : ClassId) → Some k ≡ option_map kept_of (p.at n) →
+    k.class ≡ c → form_at p n ≡ Some (c, length k.slots)
+form_of_kept p n k c is class = by (p.at n) refl is where
+  form : Option Object → Option (ClassId × ℕ)
+  form o = option_map {U = ClassId × ℕ} (λ (x : Object). (x.class, length x.slots)) o
+
+  by : (o : Option Object) → p.at n ≡ o → Some k ≡ option_map kept_of o → form (p.at n) ≡ Some (c, length k.slots)
+  by None there is = cc
+  by (Some o) there is =
+      let same : k ≡ kept_of o = cc in
+      ap form there
+      ∙ ap (λ (z : Kept). formed z.class (length z.slots)) (sym same)
+      ∙ ap (λ (d : ClassId). formed d (length k.slots)) class
 
 -- ---- what is at a place
 

@@ -80,15 +80,6 @@ between_more bytes more from to order within =
     ap (take (to - from)) (drop-append-le from bytes more (omega (arith, order, within)))
     ∙ take-append-le (to - from) (drop from bytes) more (grind (arith, common_steps))
 
-prints_more : (bytes more : List ℕ) (from : ℕ) (ends threads : List ℕ) → Cover from ends threads (length bytes)
-    → prints_in (bytes ++ more) from ends threads ≡ prints_in bytes from ends threads
-prints_more bytes more from [] [] h = refl
-prints_more bytes more from [] (t ∷ ts) h = refl
-prints_more bytes more from (e ∷ es) [] h = refl
-prints_more bytes more from (e ∷ es) (t ∷ ts) (h, hs) =
-    let here = between_more bytes more from e h (cover_within e es ts (length bytes) hs) in
-    rw (here, prints_more bytes more e es ts hs) refl
-
 -- one more
 pub print_added : (bytes text : List ℕ) (from : ℕ) (ends threads : List ℕ) (thread end : ℕ)
     → Cover from ends threads (length bytes) → end ≡ length bytes + length text

@@ -99,12 +99,3 @@ pool_in-past rows m change h same =
     let none : row_at rows m ≡ empty_row = get_or_past rows m empty_row h in
     same_pools (pool_in rows) m (change (pool_in rows m)) (ap pool_by none ∙ sym same
     ∙ ap (λ (r : ObjectRow). change (pool_by r)) (sym none))
-
--- ---- a row taken out
-
-pub pool_in-at : (rows : List ObjectRow) (m : ℕ) (old : ObjectRow) → m < length rows → old ≡ get_or rows m old →
-    pool_by old ≡ pool_in rows m
-pool_in-at rows m old h was = ap pool_by (sym (get_or_default rows m empty_row old h ∙ sym was))
-
-pub pool_in-none : (rows : List ObjectRow) (m : ℕ) → length rows ≤ m → pool_by empty_row ≡ pool_in rows m
-pool_in-none rows m h = ap pool_by (sym (get_or_past rows m empty_row h))

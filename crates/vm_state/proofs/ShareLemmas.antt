@@ -1,6 +1,7 @@
 -- What a change of the classes' table is of the shared state.
 use Rattle.std.proofs.Common.{◌≡◌, ℕ, Bool, true, false, List, refl, ap, ◌∙◌, ◌==◌, eqb-true, if◌then◌else◌, inl, inr}
-use Rattle.std.proofs.Common.{◌⊎◌, Result, Ok, Err, OnOk, OnErr}
+use Rattle.std.proofs.Common.{◌⊎◌, Option, None, Some, Result, Ok, Err, OnOk, OnErr}
+use Rattle.std.specs.Prelude.{IfSome}
 use Rattle.std.proofs.Math.Path.{fun_ext}
 use Rattle.vm_state.specs.declared.value.Value.{Value}
 use Rattle.vm_state.specs.Output.{Print}
@@ -177,6 +178,10 @@ if_refused (Err error) holds = holds
 pub if_done : {T E P Q : Type 0} (r : Result T E) → OnOk r P → (P → Q) → OnOk r Q
 if_done (Ok value) holds so = so holds
 if_done (Err error) holds so = tt
+
+pub if_put : {T P Q : Type 0} (o : Option T) → IfSome o (λ x. P) → (P → Q) → IfSome o (λ x. Q)
+if_put None holds so = tt
+if_put (Some value) holds so = so holds
 
 -- what was done, or refused
 pub either_way : {T E P Q : Type 0} (r : Result T E) → OnOk r P → OnErr r Q → P ⊎ Q

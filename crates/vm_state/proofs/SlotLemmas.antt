@@ -113,22 +113,6 @@ changed_at count os place k change held new h some was is =
       changed_pool count os place k change held.1 h standing,
     )
 
--- ---- a slot changed
-
--- what a row becomes where what is held at a place gets these slots
-abbrev pub IsSlotSet : ℕ → List (ℕ × Object) → List (ℕ × Object) → ℕ → ℕ → Value → Type 0
-IsSlotSet count os new k slot value = AscendsFrom 0 new count
-    × (pool_by (record { count = count; objects = new })
-    ≡ with_slot (pool_by (record { count = count; objects = os })) k slot value)
-
-pub slot_set_at : (count : ℕ) (os : List (ℕ × Object)) (place k slot : ℕ) (value : Value) (held : ℕ × Object)
-    (slots : List Value) → AscendsFrom 0 os count → IsSome (object_at_place os place k) → held ≡ get_or os place held →
-    slots ≡ slice_set held.1.slots slot value →
-    IsSlotSet count os (slice_set os place (held.0, record held.1 { slots = slots })) k slot value
-slot_set_at count os place k slot value held slots h some was is =
-    changed_at count os place k (object_with_slot slot value) held (record held.1 { slots = slots }) h some was
-    (ap (λ (vs : List Value). record held.1 { slots = vs }) is)
-
 -- ---- the first two slots changed
 
 abbrev pub first_changed : Value → Value → Object → Object
@@ -154,21 +138,6 @@ first_at p n k a b = elim (tested (n == k)) [
 pub first_pool : (p : Pool) (k : ℕ) (a b : Value) →
     with_object p k (option_map (first_changed a b) (p.at k)) ≡ pool_with_first p k a b
 first_pool p k a b = ap (pool p.count) (fun_ext (λ n. first_at p n k a b))
-
--- what a row becomes where what is held at a place gets slots with these first two
-abbrev pub IsFirstSet : ℕ → List (ℕ × Object) → List (ℕ × Object) → ℕ → Value → Value → Type 0
-IsFirstSet count os new k first second = AscendsFrom 0 new count
-    × (pool_by (record { count = count; objects = new })
-    ≡ with_slot (with_slot (pool_by (record { count = count; objects = os })) k 0 first) k 1 second)
-
-pub first_set_at : (count : ℕ) (os : List (ℕ × Object)) (place k : ℕ) (first second : Value) (held : ℕ × Object)
-    (slots : List Value) → AscendsFrom 0 os count → IsSome (object_at_place os place k) → held ≡ get_or os place held →
-    slots ≡ slice_set (slice_set held.1.slots 0 first) 1 second →
-    IsFirstSet count os (slice_set os place (held.0, record held.1 { slots = slots })) k first second
-first_set_at count os place k first second held slots h some was is =
-    let changed = changed_at count os place k (first_changed first second) held (record held.1 { slots = slots }) h some
-    was (ap (λ (vs : List Value). record held.1 { slots = vs }) is) in
-    (changed.0, changed.1 ∙ first_pool (pool_by (record { count = count; objects = os })) k first second)
 
 pub nothing_first : (n : ℕ) (a b : Value) → pool_with_first (pool_by empty_row) n a b ≡ pool_by empty_row
 nothing_first n a b = ap (pool 0) (fun_ext (λ k. elim (tested (k == n)) [

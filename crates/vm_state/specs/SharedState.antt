@@ -1,7 +1,7 @@
 -- What all threads share, as functions of classes, fields and names: the statics, the objects, how many objects each
 -- maker made, the states of the classes (JVMS 5.5), and what was printed.
 use Rattle.std.specs.Prelude.{ℕ, ◌+◌, Bool, false, List, [], ◌∷◌, ◌++◌, Option, Some, None, ◌==◌, if◌then◌else◌}
-use Rattle.std.specs.Prelude.{option_map, slice_set}
+use Rattle.std.specs.Prelude.{length, option_map, slice_set}
 use Rattle.vm_state.specs.declared.value.Value.{Value}
 use Rattle.vm_state.specs.declared.value.Name.{Name}
 use Rattle.vm_state.specs.declared.value.Maker.{Maker}
@@ -47,6 +47,10 @@ class_at p n = option_map (λ (o : Object). o.class) (p.at n)
 -- the slots of the object of a number
 abbrev pub slots_at : Pool → ℕ → Option (List Value)
 slots_at p n = option_map (λ (o : Object). o.slots) (p.at n)
+
+-- the class of the object of a number, and how many slots it has
+abbrev pub form_at : Pool → ℕ → Option (ClassId × ℕ)
+form_at p n = option_map (λ (o : Object). (o.class, length o.slots)) (p.at n)
 
 abbrev pub object_with_slot : ℕ → Value → Object → Object
 object_with_slot i v o = record o { slots = slice_set o.slots i v }

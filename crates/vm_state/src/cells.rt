@@ -190,7 +190,8 @@ impl Cells {
     /// The cells themselves: the local variables, then the operands, the lowest first, then some more.
     #[inline(always)]
     pub fn into_variables(self) -> Vec<Variable>
-        ensures value { self ≡ contents (length self.locals) (length self.operands.values) self.operands.free result.items }
+        ensures value { self ≡ contents (length self.locals) (length self.operands.values) self.operands.free
+            result.items }
         ensures fits { Fits (length self.locals) (length self.operands.values) self.operands.free result.items }
     {
         let Cells { variables, .. } = self;

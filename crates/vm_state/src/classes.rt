@@ -110,7 +110,7 @@ impl Fields {
         Ok(Fields { values })
     }
 
-    /// The same fields once more.
+    /// A copy of the fields.
     ///
     /// # Errors
     /// `AllocError` where memory is refused.
@@ -132,7 +132,7 @@ impl Fields {
         }
     }
 
-    /// Keeps places for the first so many fields; no field's value changes.
+    /// Keeps places for the first `count` fields; no field's value changes.
     ///
     /// # Errors
     /// `AllocError` where memory is refused, but never where they have places; nothing has changed then.
@@ -299,7 +299,7 @@ impl Classes {
         Ok(())
     }
 
-    /// Keeps a place for a class, and for the first so many of its static fields; no class's state and no field's value
+    /// Keeps a place for a class, and for the first `count` of its static fields; no class's state and no field's value
     /// changes.
     ///
     /// # Errors

@@ -56,7 +56,7 @@ impl Few {
         }
     }
 
-    /// The same once more.
+    /// A copy of these values.
     fn copy(&self) -> Few
         ensures { result ≡ self.now }
     {
@@ -127,7 +127,7 @@ pub(crate) trait Element: Copy {
     fn narrow(value: Value) -> Option<Self>
         ensures { IfSome result (λ e. value_of e ≡ value) };
 
-    /// This one so many times.
+    /// This one `count` times.
     fn many(self, alloc: Global, count: usize) -> Result<Vec<Self>, AllocError>
         ensures { IfOk result (λ v. v.items ≡ replicate count self) };
 }
@@ -322,7 +322,7 @@ pub(crate) fn put_narrow<E: Element>(elements: &mut Vec<E>, slot: usize, value: 
 
 /// Puts an element into a slot. Where there is no such slot nothing changes.
 #[inline(always)]
-fn put_element<E: Copy>(elements: &mut Vec<E>, slot: usize, element: E)
+pub(crate) fn put_element<E: Copy>(elements: &mut Vec<E>, slot: usize, element: E)
     ensures { elements.new.items ≡ slice_set elements.old.items slot element }
 {
     if let Some(held) = elements.get_mut(slot) {
@@ -357,7 +357,7 @@ fn widened<E: Element>(alloc: Global, elements: &[E]) -> Result<Vec<Value>, Allo
     Ok(values)
 }
 
-/// What stands for this value, so many times; none where nothing does.
+/// What stands for this value, `count` times; none where nothing does.
 fn filled_narrow<E: Element>(
     alloc: Global,
     value: Value,
@@ -428,7 +428,7 @@ pub(crate) enum Elements {
 }
 
 impl Elements {
-    /// This value so many times, in a row for any values.
+    /// This value `count` times, in a row for any values.
     fn mixed(alloc: Global, value: Value, count: usize) -> Result<Elements, AllocError>
         ensures { IfOk result (λ e. values_of e ≡ replicate count value) }
     {
@@ -508,7 +508,7 @@ impl Elements {
         }
     }
 
-    /// This value so many times, in a row for the components of an array.
+    /// This value `count` times, in a row for the components of an array.
     pub(crate) fn filled(
         alloc: Global,
         array: ArrayType,
@@ -530,7 +530,7 @@ impl Elements {
         }
     }
 
-    /// The same values once more.
+    /// A copy of the elements.
     pub(crate) fn copy(&self, alloc: Global) -> Result<Elements, AllocError>
         ensures { IfOk result (λ e. values_of e ≡ values_of self.now) }
     {
@@ -682,7 +682,7 @@ impl Elements {
         }
     }
 
-    /// No values, with room for so many components of an array.
+    /// No values, with room for `room` components of an array.
     pub(crate) fn with_room(
         alloc: Global,
         array: ArrayType,

@@ -6,12 +6,14 @@ ghost use Rattle.std.specs.List.Sorted.{IsNonDecreasingBy};
 ghost use Rattle.vm_state.specs.Objects.{AscendsFrom, empty_row, row_of, object_in, kept_of, numbered_kept};
 ghost use Rattle.vm_state.specs.steps.Objects.{with_next, with_monitor_in, object_at_place, numbers_of, objects_of};
 ghost use Rattle.vm_state.specs.steps.Objects.{IsKept};
-ghost use Rattle.vm_state.specs.SharedState.{class_at, monitor_of, slots_at, with_new, with_slot, with_monitor};
+ghost use Rattle.vm_state.specs.SharedState.{class_at, form_at, monitor_of, slots_at, with_new, with_slot};
+ghost use Rattle.vm_state.specs.SharedState.{with_monitor};
+ghost use Rattle.vm_state.specs.steps.ClassWords.{expected_class};
 ghost use Rattle.vm_state.specs.declared.kept.Kept.{Kept as HeldObject};
 ghost use Rattle.vm_state.specs.Pools.{IsRowBy, IsRowOf, pool_at, pool_by, pool_in, with_pool};
 
 use crate::items::copy_items;
-use crate::kept::{Kept, KeptClass};
+use crate::kept::{Expected, Kept, KeptClass};
 use crate::object::{Monitor, Object, Slots};
 use crate::owners::Owners;
 use crate::packing::Packing;
@@ -51,7 +53,7 @@ impl Model for Row {
         × ((k : ℕ) → s.count ≤ k → monitor_in s.owners k ≡ Free) };
 }
 
-/// The number at a place: of the first so many it is the place, of the others it stands in a list.
+/// The number at a place: of the first `plain` it is the place, of the others it stands in a list.
 #[inline(always)]
 fn number_at(plain: usize, later: &[u64], place: usize) -> Option<u64>
     ensures { result ≡ slice_get (numbers_of plain later.now) place }
@@ -212,7 +214,7 @@ impl Row {
         Row::of_none(alloc, 0)
     }
 
-    /// The row of a maker that made so many objects, of which none is held.
+    /// The row of a maker that made `count` objects, of which none is held.
     fn of_none(alloc: Global, count: u64) -> Row
         ensures { result ≡ record { count = count; objects = [] } }
     {
@@ -224,7 +226,7 @@ impl Row {
         }
     }
 
-    /// The same row once more.
+    /// A copy of the row.
     ///
     /// # Errors
     /// `AllocError` where memory is refused.
@@ -250,7 +252,7 @@ impl Row {
         self.count
     }
 
-    /// So many objects were made, and these are held.
+    /// The row of a maker that made `count` objects, of which these are held.
     ///
     /// # Errors
     /// `AllocError` where memory is refused.
@@ -332,7 +334,7 @@ impl Row {
         }
     }
 
-    /// The same, by a search.
+    /// The place of the object of a number, found by halving the row.
     #[inline(never)]
     fn searched_place(&self, number: u64) -> Option<usize>
         ensures held { IfSome result (λ place. IsSome (object_at_place self.now.objects place number)) }
@@ -359,7 +361,7 @@ impl Row {
         self.kept(number)
     }
 
-    /// The same.
+    /// The object of a number, as it is kept.
     #[inline(always)]
     fn kept(&self, number: u64) -> Option<&Kept>
         ensures { option_copied result ≡ option_map kept_of (object_in self.now.objects number) }
@@ -394,7 +396,7 @@ impl Row {
         self.set_slot_as(number, Packing::Briefs, slot, value)
     }
 
-    /// The same, quick where its slots are held as expected.
+    /// As [`set_slot`](Row::set_slot), quick where the object's slots are held as expected.
     ///
     /// # Errors
     /// `AllocError` where memory is refused; nothing has changed then.
@@ -414,6 +416,33 @@ impl Row {
             held.slots.set_as(expected, slot, value)?;
         }
         Ok(())
+    }
+
+    /// Puts a value into a slot of the object of a number, and says how many slots it has; not where it is not held, is
+    /// not of the class expected, holds its slots otherwise, has no such slot, or the value does not fit.
+    #[inline(always)]
+    pub fn put_within(
+        &mut self,
+        number: u64,
+        expected: Expected,
+        packing: Packing,
+        slot: usize,
+        value: Value,
+    ) -> Option<usize>
+        ensures slot { IfSome result (λ n. (slot < n) × (n < 2 ^ 31)) }
+        ensures form { IfSome result (λ n. form_at (pool_by self.old) number ≡ Some (expected_class expected, n)) }
+        ensures some { IfSome result (λ n. pool_by self.new ≡ with_slot (pool_by self.old) number slot value) }
+        ensures none { IfNone result (self.new ≡ self.old) }
+    {
+        let Some(place) = self.place(number) else {
+            return None;
+        };
+        let held = &mut self.kept[place];
+        if !held.class.is_expected(expected) {
+            return None;
+        }
+        let count = held.slots.put_within(packing, slot, value)?;
+        Some(count)
     }
 
     /// Puts values into the first two slots of the object of a number. Where it is not held, or has no such slot,
@@ -597,6 +626,31 @@ impl Rows {
         match self.rows.get_mut(maker as usize) {
             Some(row) => row.set_slot_as(number, expected, slot, value),
             None => Ok(()),
+        }
+    }
+
+    /// Puts a value into a slot of the object of a maker and a number, and says how many slots it has; not where it is
+    /// not held, is not of the class expected, holds its slots otherwise, has no such slot, or the value does not fit.
+    #[inline(always)]
+    pub fn put_within(
+        &mut self,
+        maker: u32,
+        number: u64,
+        expected: Expected,
+        packing: Packing,
+        slot: usize,
+        value: Value,
+    ) -> Option<usize>
+        ensures slot { IfSome result (λ n. (slot < n) × (n < 2 ^ 31)) }
+        ensures form { IfSome result
+            (λ n. form_at (pool_in self.old maker) number ≡ Some (expected_class expected, n)) }
+        ensures some { IfSome result (λ n. pool_in self.new
+            ≡ with_pool (pool_in self.old) maker (with_slot (pool_in self.old maker) number slot value)) }
+        ensures none { IfNone result (self.new ≡ self.old) }
+    {
+        match self.rows.get_mut(maker as usize) {
+            Some(row) => row.put_within(number, expected, packing, slot, value),
+            None => None,
         }
     }
 

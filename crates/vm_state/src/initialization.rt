@@ -50,7 +50,7 @@ impl Parents {
         same_items(&self.reversed, &other.reversed)
     }
 
-    /// The same once more.
+    /// A copy of the parents.
     ///
     /// # Errors
     /// `AllocError` where memory is refused.
@@ -129,7 +129,7 @@ impl Level {
         self.initialization.is_same(&other.initialization) && self.under.is_same(&other.under)
     }
 
-    /// The same once more.
+    /// A copy of the level.
     ///
     /// # Errors
     /// `AllocError` where memory is refused.
@@ -195,7 +195,7 @@ impl LevelList {
         same_items(&self.levels, &other.levels)
     }
 
-    /// The same once more.
+    /// A copy of the list.
     ///
     /// # Errors
     /// `AllocError` where memory is refused.
@@ -250,7 +250,7 @@ impl Levels {
         self.highest.is_same(&other.highest) && self.outer.is_same(&other.outer)
     }
 
-    /// The same once more.
+    /// A copy of the levels.
     ///
     /// # Errors
     /// `AllocError` where memory is refused.
@@ -327,7 +327,7 @@ fn same_levels_in(left: &Option<Levels>, right: &Option<Levels>) -> bool
     }
 }
 
-/// The same frames once more, if there are some.
+/// A copy of the frames, if there are some.
 fn copy_segment(alloc: Global, segment: &Option<Segment>) -> Result<Option<Segment>, AllocError>
     ensures { IfOk result (λ s. s ≡ segment.now) }
 {
@@ -340,7 +340,7 @@ fn copy_segment(alloc: Global, segment: &Option<Segment>) -> Result<Option<Segme
     }
 }
 
-/// The same initializations once more, if there are some.
+/// A copy of the initializations, if there are some.
 fn copy_levels_in(alloc: Global, levels: &Option<Levels>) -> Result<Option<Levels>, AllocError>
     ensures { IfOk result (λ l. l ≡ levels.now) }
 {
@@ -364,7 +364,7 @@ impl Frames {
             && same_levels_in(&self.levels, &other.levels)
     }
 
-    /// The same once more.
+    /// A copy of the thread's frames.
     ///
     /// # Errors
     /// `AllocError` where memory is refused.

@@ -14,7 +14,7 @@ pub trait Item {
 
 /// What stands in a list and can be copied.
 pub trait CopiedItem: Drop {
-    /// The same once more.
+    /// A copy of the item.
     ///
     /// # Errors
     /// `AllocError` where memory is refused.

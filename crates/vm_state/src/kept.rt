@@ -3,7 +3,7 @@
 ghost use Rattle.std.specs.Prelude.{◌≡◌, IfOk, true};
 ghost use Rattle.built_in.specs.declared.class_id.ClassId.TheVariants.{Given};
 ghost use Rattle.vm_state.specs.ArrayClasses.{has_references};
-ghost use Rattle.vm_state.specs.steps.ClassWords.{array_of, class_of_word, element_of};
+ghost use Rattle.vm_state.specs.steps.ClassWords.{array_of, class_of_word, element_of, expected_class};
 
 use crate::items::CopiedItem;
 use crate::object::Slots;
@@ -22,6 +22,15 @@ pub enum Primitive {
     Long,
     Float,
     Double,
+}
+
+/// The class that a store expects of an object.
+#[derive(Clone, Copy)]
+pub enum Expected {
+    /// This given class.
+    Given(u32),
+    /// The arrays of one dimension whose elements are these numbers.
+    ArrayOf(Primitive),
 }
 
 /// A class in 8 bytes: an array class by how many dimensions it has, and its elements.
@@ -118,7 +127,7 @@ impl KeptClass {
         KeptClass { word }
     }
 
-    /// The same once more.
+    /// A copy of the class.
     fn copy(&self) -> KeptClass
         ensures { result ≡ self.now }
     {
@@ -144,6 +153,17 @@ impl KeptClass {
         match self.word {
             ClassWord::OfPrimitive(1, held) => same_primitive(held, primitive),
             _ => false,
+        }
+    }
+
+    /// Whether it is the class that is expected.
+    #[inline(always)]
+    pub fn is_expected(&self, expected: Expected) -> bool
+        ensures { result ≡ true → self.now ≡ expected_class expected }
+    {
+        match expected {
+            Expected::Given(class) => self.is_given(class),
+            Expected::ArrayOf(primitive) => self.is_array_of(primitive),
         }
     }
 

@@ -1,7 +1,7 @@
 //! Objects: instances and arrays (JVMS 2.7).
 
-ghost use Rattle.std.specs.Prelude.{◌≡◌, [], ◌∷◌, ◌++◌, true, IfOk, IfSome, OnOk, OnErr, Some, length, replicate};
-ghost use Rattle.std.specs.Prelude.{map, slice_get, slice_set};
+ghost use Rattle.std.specs.Prelude.{◌≡◌, [], ◌∷◌, ◌++◌, true, IfOk, IfSome, IfNone, OnOk, OnErr, Some, length, ◌<◌};
+ghost use Rattle.std.specs.Prelude.{◌^◌, map, replicate, slice_get, slice_set};
 ghost use Rattle.std.specs.List.{All};
 ghost use Rattle.vm_state.specs.Values.{IsNumber};
 ghost use Rattle.vm_state.specs.declared.value.Value.TheVariants.{Int, Long};
@@ -40,7 +40,7 @@ impl Slots {
         }
     }
 
-    /// This value so many times, for an array: where its components are numbers they take as many bytes as their type
+    /// This value `count` times, for an array: where its components are numbers they take as many bytes as their type
     /// wants.
     ///
     /// # Errors
@@ -57,7 +57,7 @@ impl Slots {
         Ok(Slots { elements })
     }
 
-    /// No values yet, and room for so many, for an array: where its components are numbers they take as many bytes as
+    /// No values yet, and room for `room`, for an array: where its components are numbers they take as many bytes as
     /// their type wants.
     ///
     /// # Errors
@@ -80,7 +80,7 @@ impl Slots {
         Ok(Slots { elements })
     }
 
-    /// The same values once more.
+    /// A copy of the slots.
     ///
     /// # Errors
     /// `AllocError` where memory is refused.
@@ -107,8 +107,8 @@ impl Slots {
         self.elements.get(slot)
     }
 
-    /// How many there are, and the value in a slot. None where they are not held in 8 bytes each, or there is no such
-    /// slot.
+    /// How many there are, and the value in a slot. None where they are held as numbers of one type, or there is no
+    /// such slot.
     #[inline(always)]
     pub fn brief_at(&self, slot: usize) -> Option<(usize, Value)>
         ensures count { IfSome result (λ r. r.0 ≡ length self.now) }
@@ -177,7 +177,7 @@ impl Slots {
         self.elements.set(slot, value)
     }
 
-    /// The same, quick where they are held as expected.
+    /// As [`set`](Slots::set), quick where the values are held as expected.
     ///
     /// # Errors
     /// `AllocError` where memory is refused; nothing has changed then.
@@ -187,6 +187,18 @@ impl Slots {
         ensures err { OnErr result (self.new ≡ self.old) }
     {
         self.elements.set_as(expected, slot, value)
+    }
+
+    /// Puts a value into a slot, and says how many there are; not where they are held otherwise than as expected, where
+    /// there is no such slot, or it does not fit.
+    #[inline(always)]
+    pub fn put_within(&mut self, expected: Packing, slot: usize, value: Value) -> Option<usize>
+        ensures slot { IfSome result (λ n. (slot < n) × (n < 2 ^ 31)) }
+        ensures count { IfSome result (λ n. n ≡ length self.old) }
+        ensures some { IfSome result (λ n. self.new ≡ slice_set self.old slot value) }
+        ensures none { IfNone result (self.new ≡ self.old) }
+    {
+        self.elements.put_within(expected, slot, value)
     }
 
     /// Adds a slot at the end, which holds a value.
@@ -216,7 +228,7 @@ impl Slots {
 #[derive(Clone, Copy)]
 pub enum Monitor {
     Free,
-    /// Owned by a thread, which entered it so many times.
+    /// Owned by a thread, which entered it `depth` times.
     Owned { thread: u32, depth: u64 },
 }
 

@@ -32,7 +32,7 @@ impl Owners {
         }
     }
 
-    /// The same once more.
+    /// A copy of the owners.
     pub(crate) fn copy(&self, alloc: Global) -> Result<Owners, AllocError>
         ensures { IfOk result (λ o. o ≡ self.now) }
     {

@@ -1,23 +1,89 @@
 //! Values in a row by how they are held, for who knows how that mostly is: a compare in the place of a table of jumps.
 
-ghost use Rattle.std.specs.Prelude.{◌≡◌, true, false, map, length, slice_get, slice_set, IfSome, OnOk, OnErr, Some};
+ghost use Rattle.std.specs.Prelude.{◌≡◌, true, false, map, length, slice_get, slice_set, IfSome, IfNone, OnOk, OnErr};
+ghost use Rattle.std.specs.Prelude.{Some, ◌<◌, ◌^◌};
 ghost use Rattle.vm_state.specs.declared.value.Value.TheVariants.{Int, Long};
 ghost use Rattle.vm_state.specs.steps.Elements.{values_of, brief_value, char_value};
 
-use crate::elements::{Brief, Elements, put_few, put_narrow, value_at};
+use crate::elements::{Brief, Element, Elements, Few, put_element, put_few, put_narrow, value_at};
 use crate::value::Value;
 use std::alloc::AllocError;
+
+/// An array has no more elements than an int can say.
+const MOST: usize = 2_147_483_647;
 
 /// As what values in a row are held.
 #[derive(Clone, Copy)]
 pub enum Packing {
-    /// In 8 bytes each, as the fields of most instances.
+    /// In 8 bytes each, or as values: as fields of instances, and elements that are references.
     Briefs,
     Bytes,
     Chars,
     Shorts,
     Ints,
     Longs,
+}
+
+/// How many values there are, and the one at a slot.
+#[inline(always)]
+fn counted_value(values: &[Value], slot: usize) -> Option<(usize, Value)>
+    ensures count { IfSome result (λ r. r.0 ≡ length values.now) }
+    ensures value { IfSome result (λ r. slice_get values.now slot ≡ Some r.1) }
+{
+    match values.get(slot) {
+        Some(value) => Some((values.len(), *value)),
+        None => None,
+    }
+}
+
+/// Puts a value into a slot, where there is one and it fits, and says how many there are: not more than an int can say.
+#[inline(always)]
+fn put_counted<E: Element>(elements: &mut Vec<E>, slot: usize, value: Value) -> Option<usize>
+    ensures slot { IfSome result (λ n. (slot < n) × (n < 2 ^ 31)) }
+    ensures count { IfSome result (λ n. n ≡ length (map E.value_of elements.old.items)) }
+    ensures some { IfSome result
+        (λ n. map E.value_of elements.new.items ≡ slice_set (map E.value_of elements.old.items) slot value) }
+    ensures none { IfNone result (elements.new ≡ elements.old) }
+{
+    let count = elements.len();
+    if slot < count && count <= MOST && put_narrow(elements, slot, value) {
+        Some(count)
+    } else {
+        None
+    }
+}
+
+/// Puts a value into a slot of a few, where there is one and it fits, and says how many there are.
+#[inline(always)]
+fn put_few_counted(few: &mut Few, slot: usize, value: Value) -> Option<usize>
+    ensures slot { IfSome result (λ n. (slot < n) × (n < 2 ^ 31)) }
+    ensures count { IfSome result (λ n. n ≡ length (map brief_value few.old)) }
+    ensures some { IfSome result (λ n. map brief_value few.new ≡ slice_set (map brief_value few.old) slot value) }
+    ensures none { IfNone result (few.new ≡ few.old) }
+{
+    let count = few.as_slice().len();
+    if slot < count && count <= MOST && put_few(few, slot, value) {
+        Some(count)
+    } else {
+        None
+    }
+}
+
+/// Puts a value into a slot, where there is one, and says how many there are.
+#[inline(always)]
+fn put_value(values: &mut Vec<Value>, slot: usize, value: Value) -> Option<usize>
+    ensures slot { IfSome result (λ n. (slot < n) × (n < 2 ^ 31)) }
+    ensures count { IfSome result (λ n. n ≡ length values.old.items) }
+    ensures some { IfSome result (λ n. values.new.items ≡ slice_set values.old.items slot value) }
+    ensures none { IfNone result (values.new ≡ values.old) }
+{
+    let count = values.len();
+    if slot < count && count <= MOST {
+        put_element(values, slot, value);
+        Some(count)
+    } else {
+        None
+    }
 }
 
 /// How many there are of what is held in 8 bytes each, and the value at a slot.
@@ -33,33 +99,23 @@ fn counted_at(briefs: &[Brief], slot: usize) -> Option<(usize, Value)>
 }
 
 impl Elements {
-    /// What stands for them, where they are held in 8 bytes each.
-    #[inline(always)]
-    fn as_briefs(&self) -> Option<&[Brief]>
-        ensures { IfSome result (λ b. map brief_value b.now ≡ values_of self.now) }
-    {
-        match self {
-            Elements::Few(few, _) => Some(few.as_slice()),
-            Elements::Briefs(briefs) => Some(briefs.as_slice()),
-            _ => None,
-        }
-    }
-
-    /// How many there are, and the value at a slot. None where they are not held in 8 bytes each, or there is no such
-    /// slot.
+    /// How many there are, and the value at a slot. None where they are held as numbers of one type, or there is no
+    /// such slot.
     #[inline(always)]
     pub(crate) fn brief_at(&self, slot: usize) -> Option<(usize, Value)>
         ensures count { IfSome result (λ r. r.0 ≡ length (values_of self.now)) }
         ensures value { IfSome result (λ r. slice_get (values_of self.now) slot ≡ Some r.1) }
     {
-        match self.as_briefs() {
-            Some(briefs) => counted_at(briefs, slot),
-            None => None,
+        match self {
+            Elements::Few(few, _) => counted_at(few.as_slice(), slot),
+            Elements::Briefs(briefs) => counted_at(briefs.as_slice(), slot),
+            Elements::Values(values) => counted_value(values.as_slice(), slot),
+            _ => None,
         }
     }
 
-    /// Puts a value into a slot, and says so; not where they are not held in 8 bytes each, or it does not fit there.
-    /// Where there is no such slot nothing changes.
+    /// Puts a value into a slot, and says so; not where they are held as numbers of one type, or it does not fit. Where
+    /// there is no such slot nothing changes.
     #[inline(always)]
     fn put_brief(&mut self, slot: usize, value: Value) -> bool
         ensures yes { result ≡ true → values_of self.new ≡ slice_set (values_of self.old) slot value }
@@ -68,6 +124,10 @@ impl Elements {
         match self {
             Elements::Few(few, _) => put_few(few, slot, value),
             Elements::Briefs(briefs) => put_narrow(briefs, slot, value),
+            Elements::Values(values) => {
+                put_element(values, slot, value);
+                true
+            }
             _ => false,
         }
     }
@@ -157,7 +217,7 @@ impl Elements {
         }
     }
 
-    /// The same, quick where they are held as expected.
+    /// As [`set`](Elements::set), quick where the values are held as expected.
     #[inline(always)]
     pub(crate) fn set_as(
         &mut self,
@@ -172,5 +232,61 @@ impl Elements {
             return Ok(());
         }
         self.set(slot, value)
+    }
+
+    /// Puts a value into a slot, and says how many there are; not where they are held as numbers of one type, where
+    /// there is no such slot, or it does not fit.
+    #[inline(always)]
+    fn put_brief_within(&mut self, slot: usize, value: Value) -> Option<usize>
+        ensures slot { IfSome result (λ n. (slot < n) × (n < 2 ^ 31)) }
+        ensures count { IfSome result (λ n. n ≡ length (values_of self.old)) }
+        ensures some { IfSome result (λ n. values_of self.new ≡ slice_set (values_of self.old) slot value) }
+        ensures none { IfNone result (self.new ≡ self.old) }
+    {
+        match self {
+            Elements::Few(few, _) => put_few_counted(few, slot, value),
+            Elements::Briefs(briefs) => put_counted(briefs, slot, value),
+            Elements::Values(values) => put_value(values, slot, value),
+            _ => None,
+        }
+    }
+
+    /// Puts a value into a slot, and says how many there are; not where they are held otherwise, where there is no such
+    /// slot, or it does not fit.
+    #[inline(always)]
+    pub(crate) fn put_within(
+        &mut self,
+        packing: Packing,
+        slot: usize,
+        value: Value,
+    ) -> Option<usize>
+        ensures slot { IfSome result (λ n. (slot < n) × (n < 2 ^ 31)) }
+        ensures count { IfSome result (λ n. n ≡ length (values_of self.old)) }
+        ensures some { IfSome result (λ n. values_of self.new ≡ slice_set (values_of self.old) slot value) }
+        ensures none { IfNone result (self.new ≡ self.old) }
+    {
+        match packing {
+            Packing::Briefs => self.put_brief_within(slot, value),
+            _ => self.put_number_within(packing, slot, value),
+        }
+    }
+
+    /// Puts a number into a slot, and says how many there are; not where they are held otherwise, where there is no
+    /// such slot, or it does not fit.
+    #[inline(always)]
+    fn put_number_within(&mut self, packing: Packing, slot: usize, value: Value) -> Option<usize>
+        ensures slot { IfSome result (λ n. (slot < n) × (n < 2 ^ 31)) }
+        ensures count { IfSome result (λ n. n ≡ length (values_of self.old)) }
+        ensures some { IfSome result (λ n. values_of self.new ≡ slice_set (values_of self.old) slot value) }
+        ensures none { IfNone result (self.new ≡ self.old) }
+    {
+        match (packing, self) {
+            (Packing::Bytes, Elements::Bytes(bytes)) => put_counted(bytes, slot, value),
+            (Packing::Chars, Elements::Chars(chars)) => put_counted(chars, slot, value),
+            (Packing::Shorts, Elements::Shorts(shorts)) => put_counted(shorts, slot, value),
+            (Packing::Ints, Elements::Ints(ints)) => put_counted(ints, slot, value),
+            (Packing::Longs, Elements::Longs(longs)) => put_counted(longs, slot, value),
+            _ => None,
+        }
     }
 }

@@ -1,9 +1,11 @@
 //! What all threads share.
 
-ghost use Rattle.std.specs.Prelude.{◌≡◌, List, IfOk, IsOk, OnOk, OnErr, option_copied, option_map, ◌<◌, ◌+◌, length};
+ghost use Rattle.std.specs.Prelude.{◌≡◌, List, IfOk, IfSome, IfNone, IsOk, OnOk, OnErr, Some, option_copied};
+ghost use Rattle.std.specs.Prelude.{option_map, ◌<◌, ◌+◌, ◌^◌, length};
 ghost use Rattle.vm_state.specs.Output.{Print};
-ghost use Rattle.vm_state.specs.SharedState.{object_of, class_at, pool_of, set_pool, slots_at, with_slot};
-ghost use Rattle.vm_state.specs.SharedState.{monitor_of, set_region, with_monitor};
+ghost use Rattle.vm_state.specs.SharedState.{object_of, class_at, form_at, pool_of, set_pool, slots_at};
+ghost use Rattle.vm_state.specs.SharedState.{monitor_of, set_region, with_monitor, with_slot};
+ghost use Rattle.vm_state.specs.steps.ClassWords.{expected_class};
 ghost use Rattle.vm_state.specs.Statics.{IsPlaced};
 ghost use Rattle.vm_state.specs.Shares.{shared_of, SharesTheSame, SetsField, SetsState, Begins, Makes, IsNextName};
 ghost use Rattle.vm_state.specs.Shares.{Initializes, region_by, empty_region};
@@ -13,7 +15,7 @@ ghost use Rattle.vm_state.specs.declared.kept.Kept.{Kept as HeldObject};
 
 use crate::classes::{ClassState, Classes, Fields, NoPlace, StaticField};
 use crate::heap::{Heap, Row};
-use crate::kept::Kept;
+use crate::kept::{Expected, Kept};
 use crate::object::{Monitor, Slots};
 use crate::packing::Packing;
 use crate::value::{Maker, Name, Value};
@@ -113,7 +115,7 @@ impl Shared {
         Ok(())
     }
 
-    /// Keeps a place for a class, and for the first so many of its static fields; nothing else changes.
+    /// Keeps a place for a class, and for the first `count` of its static fields; nothing else changes.
     ///
     /// # Errors
     /// `AllocError` where memory is refused, but never where they have places.
@@ -186,7 +188,7 @@ impl Shared {
         self.kept(name)
     }
 
-    /// The same.
+    /// The object of a name, as it is kept.
     #[tactic(auto, unfolding(crate::specs::Shares::shared_of))]
     #[inline(always)]
     fn kept(&self, name: Name) -> Option<&Kept>
@@ -243,7 +245,7 @@ impl Shared {
         self.set_slot_as(name, Packing::Briefs, slot, value)
     }
 
-    /// The same, quick where its slots are held as expected.
+    /// As [`set_slot`](Shared::set_slot), quick where the object's slots are held as expected.
     ///
     /// # Errors
     /// `AllocError` where memory is refused; nothing has changed then.
@@ -270,6 +272,41 @@ impl Shared {
                 .heap
                 .threads
                 .set_slot_as(thread, number, expected, slot, value),
+        }
+    }
+
+    /// Puts a value into a slot of the object of a name, and says how many slots it has; not where it is not held, is
+    /// not of the class expected, holds its slots otherwise, has no such slot, or the value does not fit.
+    #[tactic(auto, unfolding(crate::specs::Shares::shared_of))]
+    #[inline(always)]
+    pub fn put_within(
+        &mut self,
+        name: Name,
+        expected: Expected,
+        packing: Packing,
+        slot: usize,
+        value: Value,
+    ) -> Option<usize>
+        ensures slot { IfSome result (λ n. (slot < n) × (n < 2 ^ 31)) }
+        ensures form { IfSome result (λ n. (p : List Print)
+            → form_at (pool_of (shared_of self.old p) name.maker) name.number ≡ Some (expected_class expected, n)) }
+        ensures some { IfSome result (λ n. (p : List Print)
+            → shared_of self.new p ≡ set_pool (shared_of self.old p) name.maker
+            (with_slot (pool_of (shared_of self.old p) name.maker) name.number slot value)) }
+        ensures none { IfNone result (self.new ≡ self.old) }
+    {
+        let number = name.number;
+        match name.maker {
+            Maker::Class(class) => {
+                self.heap
+                    .classes
+                    .put_within(class, number, expected, packing, slot, value)
+            }
+            Maker::Thread(thread) => {
+                self.heap
+                    .threads
+                    .put_within(thread, number, expected, packing, slot, value)
+            }
         }
     }
 

@@ -7,11 +7,11 @@ use Rattle.program.specs.Tables.{Tables}
 use Rattle.initializer_analysis.specs.declared.verdict.Verdict.{Verdict}
 use Rattle.semantics.specs.Programs.{Program}
 use Rattle.semantics.specs.Quiet.{Environment}
-use Rattle.evaluator.specs.declared.regions.Region.{Region as Held}
+use Rattle.region_shape.specs.declared.regions.Region.{Region as Held}
 use Rattle.evaluator.specs.declared.outcome.Outcome.{Outcome as Found}
 use Rattle.evaluator.specs.declared.outcome.Outcome.TheVariants as found
 use Rattle.evaluator.specs.Outcomes.{IsOutcome, reason_of}
-use Rattle.evaluator.specs.Regions.{environment_of}
+use Rattle.region_shape.specs.Regions.{environment_of}
 use Rattle.wave_scheduler.specs.declared.outcome.Settled.{Settled as Answer}
 use Rattle.wave_scheduler.specs.Settled.{Outcome, Settled, below}
 use Rattle.wave_scheduler.specs.Outcomes.{settled_of, AreJudged}

@@ -1,5 +1,5 @@
 -- What is found of one class after another in a wave.
-use Rattle.std.proofs.Common.{◌≡◌, ◌≢◌, ◌⊎◌, inl, inr, ℕ, zero, suc, ◌+◌, ◌<◌, ◌≤◌, Bool, List, [], ◌∷◌, length, map}
+use Rattle.std.proofs.Common.{◌≡◌, ◌≢◌, ◌⊎◌, inl, inr, ℕ, zero, suc, ◌+◌, ◌<◌, Bool, List, [], ◌∷◌, length, map}
 use Rattle.std.proofs.Common.{Option, Some, None, option_map, slice_get, slice_set, slice_index_or}
 use Rattle.std.proofs.Common.{true, false, ◌↔◌, replicate, refl, sym, ap, subst, ◌∙◌, arith}
 use Rattle.std.proofs.lemmas.List.{length-set, length-map, length-replicate, get_or-set_same, map-set}
@@ -11,9 +11,8 @@ use Rattle.initializer_analysis.specs.declared.verdict.Reason.{Reason}
 use Rattle.initializer_analysis.specs.declared.verdict.Reason.TheVariants as reasons
 use Rattle.initializer_analysis.specs.declared.verdict.Verdict.{Verdict}
 use Rattle.initializer_analysis.specs.declared.verdict.Verdict.TheVariants as verdicts
-use Rattle.initializer_analysis.specs.Verdicts as before
-use Rattle.evaluator.specs.declared.regions.Region.{Region as Held}
-use Rattle.evaluator.specs.Regions.{region_of, environment_of}
+use Rattle.region_shape.specs.declared.regions.Region.{Region as Held}
+use Rattle.region_shape.specs.Regions.{region_of, environment_of}
 use Rattle.wave_scheduler.specs.Settled.{Outcome, Wave, Refused, Stopped, Settled, IsAccepted}
 use Rattle.wave_scheduler.specs.Outcomes.{outcome_of}
 use Rattle.wave_scheduler.specs.steps.Waves.{StartsFrom}
@@ -119,9 +118,6 @@ marks_are P outs rs marks count are = rw are record {
 
 -- ---- at the end
 
-pub tells_none : (first : List (Option ℕ)) (old : List Outcome) → TellsBelow first 0 old old
-tells_none first old = record { count = refl; each = λ c o low at. absurd (omega arith); rest = λ c low. refl }
-
 pub tells_more : (first : List (Option ℕ)) (limit : ℕ) (old : List Outcome) (cur more : List Verdict) (o x d : Verdict)
     → limit < length cur → x ≡ slice_index_or cur limit d → TellsBelow first limit old (map outcome_of cur)
     → outcome_of o ≡ dependent (slice_index_or first limit None) (outcome_of x) → more ≡ slice_set cur limit o
@@ -163,21 +159,3 @@ starts_from judged outs rs are none = record {
   none = λ c. ap (λ (x : List (Option Held)). slice_index_or (map seen x) c None) none
       ∙ region_none (length judged) c;
 }
-
--- with one more verdict all waves are below a number
-pub counts_more : (judged : List Verdict) (i count more : ℕ) (v : Verdict) → i < length judged
-    → v ≡ slice_index_or judged i v → ((c n : ℕ) → c < i → before.HasWave judged c n → n < count) → count ≤ more
-    → ((n : ℕ) → v ≡ verdicts.Wave n → n < more) → (c n : ℕ) → c < i + 1 → before.HasWave judged c n → n < more
-counts_more judged i count more v low is under grows above c n small at = elim (less_or_same c i small) [
-  | inl less ↦ (let b = under c n less at in omega arith)
-  | inr last ↦
-      let here : slice_get judged i ≡ Some v = slice_get-get_or judged i v low ∙ ap Some (sym is) in
-      let there : slice_get judged i ≡ Some (verdicts.Wave n) =
-      subst (λ (k : ℕ). slice_get judged k ≡ Some (verdicts.Wave n)) last at in
-      above n (from_some (sym here ∙ there))
-]
-
--- a verdict at its place
-pub verdict_at : (judged : List Verdict) (i n : ℕ) (v : Verdict) → i < length judged
-    → v ≡ slice_index_or judged i v → v ≡ verdicts.Wave n → before.HasWave judged i n
-verdict_at judged i n v low is wave = slice_get-get_or judged i v low ∙ ap Some (sym is ∙ wave)

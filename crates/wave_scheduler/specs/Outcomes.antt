@@ -6,7 +6,7 @@ use Rattle.initializer_analysis.specs.declared.verdict.Reason.TheVariants as rea
 use Rattle.initializer_analysis.specs.declared.verdict.Verdict.{Verdict}
 use Rattle.initializer_analysis.specs.declared.verdict.Verdict.TheVariants as verdicts
 use Rattle.initializer_analysis.specs.Verdicts.{AreVerdicts}
-use Rattle.evaluator.specs.Regions.{region_of}
+use Rattle.region_shape.specs.Regions.{region_of}
 use Rattle.wave_scheduler.specs.declared.outcome.Settled.{Settled as Answer}
 use Rattle.wave_scheduler.specs.declared.outcome.WaveFault.{WaveFault}
 use Rattle.wave_scheduler.specs.declared.outcome.WaveFault.TheVariants as faults

@@ -2,7 +2,7 @@
 
 ghost use Rattle.std.specs.Prelude.{◌≡◌, ◌≤◌};
 ghost use Rattle.machine.specs.Linked.{program_of};
-ghost use Rattle.evaluator.specs.Regions.{environment_of};
+ghost use Rattle.region_shape.specs.Regions.{environment_of};
 ghost use Rattle.evaluator.specs.Outcomes.{IsUnbarred};
 ghost use Rattle.wave_scheduler.specs.steps.Crews.{CanRunWave};
 
@@ -11,7 +11,7 @@ use crate::lent::Lent;
 use crate::results::{Done, Results};
 use crate::tainted::{Tainted, told};
 use crate::wave::Wave;
-use evaluator::regions::Regions;
+use region_shape::regions::Regions;
 use std::alloc::{AllocError, Global};
 use std::sync::{Mutex, Wait};
 use std::thread;

@@ -2,7 +2,7 @@
 
 ghost use Rattle.std.specs.Prelude.{◌≡◌, ◌<◌, ◌⊎◌, length, slice_set, option_map, None, IfOk, OnOk};
 ghost use Rattle.machine.specs.Linked.{program_of};
-ghost use Rattle.evaluator.specs.Regions.{region_of, region_in, environment_of};
+ghost use Rattle.region_shape.specs.Regions.{region_of, region_in, environment_of};
 ghost use Rattle.evaluator.specs.Outcomes.{IsOutcome, IsUnbarred, reason_of as why_of};
 ghost use Rattle.wave_scheduler.specs.Settled.{Stopped};
 ghost use Rattle.wave_scheduler.specs.Outcomes.{outcome_of, settled_of};
@@ -14,9 +14,9 @@ use crate::outcome::Settled;
 use crate::results::Done;
 use crate::wave::Wave;
 use evaluator::outcome::{Outcome, Refusal};
-use evaluator::regions::{Region, Regions};
 use evaluator::settling::settle;
 use initializer_analysis::verdict::{Reason, Verdict};
+use region_shape::regions::{Region, Regions};
 use std::alloc::{AllocError, Global};
 
 /// The verdict on a class, with its region.

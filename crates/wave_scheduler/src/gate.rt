@@ -2,13 +2,13 @@
 
 ghost use Rattle.std.specs.Prelude.{IfOk};
 ghost use Rattle.machine.specs.Linked.{program_of};
-ghost use Rattle.evaluator.specs.Regions.{environment_of};
+ghost use Rattle.region_shape.specs.Regions.{environment_of};
 ghost use Rattle.evaluator.specs.Outcomes.{IsOutcome, IsUnbarred};
 
 use evaluator::outcome::Outcome;
-use evaluator::regions::Regions;
 use evaluator::settling::settle;
 use program::Program;
+use region_shape::regions::Regions;
 use std::alloc::{AllocError, Global};
 
 /// Asked by each worker before and after each class that it settles. `who` is the worker, from 0, and `job` the number

@@ -6,7 +6,7 @@ use std::marker::Brand;
 pub trait Lent {
     ghost use Rattle.std.specs.Prelude.{ℕ, List, Option};
     ghost use Rattle.program.specs.Tables.{Tables};
-    ghost use Rattle.evaluator.specs.declared.regions.Region.{Region};
+    ghost use Rattle.region_shape.specs.declared.regions.Region.{Region};
 
     ghost program: { Tables };
 

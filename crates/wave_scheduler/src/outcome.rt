@@ -1,7 +1,7 @@
 //! The outcomes of classes in the end.
 
-use evaluator::regions::Regions;
 use initializer_analysis::verdict::Verdicts;
+use region_shape::regions::Regions;
 use std::alloc::AllocError;
 use thiserror::Error;
 

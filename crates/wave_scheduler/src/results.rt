@@ -2,7 +2,7 @@
 
 ghost use Rattle.std.specs.Prelude.{◌≡◌, IfSome};
 ghost use Rattle.machine.specs.Linked.{program_of};
-ghost use Rattle.evaluator.specs.Regions.{environment_of};
+ghost use Rattle.region_shape.specs.Regions.{environment_of};
 ghost use Rattle.evaluator.specs.Outcomes.{IsOutcome};
 
 use crate::lent::Lent;
@@ -23,7 +23,7 @@ pub(crate) struct Done<W: Lent> {
 impl<W: Lent> Model for Done<W> {
     ghost use Rattle.std.specs.Prelude.{ℕ};
     ghost use Rattle.machine.specs.Linked.{program_of};
-    ghost use Rattle.evaluator.specs.Regions.{environment_of};
+    ghost use Rattle.region_shape.specs.Regions.{environment_of};
     ghost use Rattle.evaluator.specs.Outcomes.{IsOutcome};
     ghost use Rattle.evaluator.specs.declared.outcome.Outcome.{Outcome as Held};
 

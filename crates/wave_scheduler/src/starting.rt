@@ -7,8 +7,8 @@ ghost use Rattle.wave_scheduler.specs.Outcomes.{settled_of};
 ghost use Rattle.wave_scheduler.specs.steps.Waves.{StartsFrom};
 
 use crate::outcome::Settled;
-use evaluator::regions::Regions;
 use initializer_analysis::verdict::{Verdict, Verdicts};
+use region_shape::regions::Regions;
 use std::alloc::{AllocError, Global};
 
 /// A copy of verdicts, to be changed.

@@ -5,7 +5,7 @@ ghost use Rattle.graph.specs.Rows.{rows_of};
 ghost use Rattle.semantics.specs.Quiet as quiet;
 ghost use Rattle.semantics.specs.Settling.{StoppedBy};
 ghost use Rattle.machine.specs.Linked.{program_of};
-ghost use Rattle.evaluator.specs.Regions.{region_in, environment_of};
+ghost use Rattle.region_shape.specs.Regions.{region_in, environment_of};
 ghost use Rattle.wave_scheduler.specs.Outcomes.{settled_of};
 ghost use Rattle.wave_scheduler.specs.steps.Waves.{AreTriedBelow};
 ghost use Rattle.wave_scheduler.specs.steps.Tainting.{vertex_in, IsSeen, IsSearched, TriesClass};

@@ -1,7 +1,7 @@
 -- What is made of the regions of settled classes.
 use Rattle.std.specs.Prelude.{◌≡◌}
 use Rattle.program.specs.Tables.{Tables}
-use Rattle.evaluator.specs.Regions.{environment_of}
+use Rattle.region_shape.specs.Regions.{environment_of}
 use Rattle.wave_scheduler.specs.declared.outcome.Settled.{Settled}
 use Rattle.object_graph.specs.Cuts.{IsCutOf}
 use Rattle.building.specs.declared.build.Built.{Built}

@@ -5,7 +5,7 @@ use Rattle.options.specs.Demands.{AreMet}
 use Rattle.wave_scheduler.specs.Outcomes.{settled_of}
 use Rattle.wave_scheduler.specs.Settled.{AreSettled}
 use Rattle.wave_scheduler.specs.declared.outcome.Settled.{Settled}
-use Rattle.building.specs.declared.asking.Asked.{Asked}
+use Rattle.building.specs.declared.asking.AskedOptions.{AskedOptions}
 use Rattle.building.specs.declared.build.BuildFault.{BuildFault}
 use Rattle.building.specs.declared.build.BuildFault.TheVariants.{Memory}
 use Rattle.building.specs.declared.build.BuildOptions.{BuildOptions}
@@ -13,7 +13,7 @@ use Rattle.building.specs.Builds.{text_of, IsSettledAs}
 use Rattle.building.specs.Refusals.{IsLeftUnmet, IsOption, OptionsFail}
 
 -- All classes are settled as it was asked, or it is told why not.
-pub record SettlesAsked (P : Tables) (asked : Asked) (budget : ℕ) (r : Result Settled BuildFault) : Type 0 where
+pub record SettlesAsked (P : Tables) (asked : AskedOptions) (budget : ℕ) (r : Result Settled BuildFault) : Type 0 where
   pub settled : IfOk r (λ settled. AreSettled P asked.forced budget (settled_of settled))
   pub met : IfOk r (λ settled. AreMet P asked.demand (settled_of settled))
   pub fault : IfErr r

@@ -4,7 +4,7 @@ use Rattle.std.specs.Int.{w16, w32}
 use Rattle.classfile.specs.declared.fault.ClassFault.{ClassFault}
 use Rattle.classfile.specs.declared.fault.ClassFault.TheVariants as faults
 use Rattle.classfile.specs.declared.constant.Constant.{Constant}
-use Rattle.classfile.specs.declared.declaration.Declaration.{Declaration}
+use Rattle.classfile.specs.declared.header.Header.{Header}
 use Rattle.classfile.specs.declared.member.Member.{Member}
 use Rattle.classfile.specs.declared.attribute.Attribute.{Attribute}
 use Rattle.classfile.specs.declared.attribute.Owner.TheVariants as owners
@@ -17,13 +17,13 @@ use Rattle.classfile.specs.reading.Code.{index_at, ends_at}
 use Rattle.classfile.specs.reading.Pool.{pool_at}
 use Rattle.classfile.specs.reading.Members.{attributes_at, members_at}
 
-abbrev pub class_file_of : List Constant → Declaration → List Member → List Member → List Attribute → ClassFile
-class_file_of constants declaration fields methods attributes = record {
+abbrev pub class_file_of : List Constant → Header → List Member → List Member → List Attribute → ClassFile
+class_file_of constants header fields methods attributes = record {
   constants = constants;
-  access_flags = declaration.access_flags;
-  this_class = declaration.this_class;
-  super_class = declaration.super_class;
-  interfaces = declaration.interfaces;
+  access_flags = header.access_flags;
+  this_class = header.this_class;
+  super_class = header.super_class;
+  interfaces = header.interfaces;
   fields = fields;
   methods = methods;
   attributes = attributes;
@@ -48,21 +48,21 @@ class_indices_at pool total bytes = do
   super ← super_class_at pool total this.1
   Ok ((this.0, super.0), super.1)
 
-abbrev pub declaration_of : ℕ → ℕ → ℕ → List ℕ → Declaration
-declaration_of flags this super interfaces = record {
+abbrev pub header_of : ℕ → ℕ → ℕ → List ℕ → Header
+header_of flags this super interfaces = record {
   access_flags = flags;
   this_class = this;
   super_class = super;
   interfaces = interfaces;
 }
 
-unfoldable pub declaration_at : List Constant → ℕ → List ℕ → Result (Declaration × List ℕ) ClassFault
-declaration_at pool total bytes = do
+unfoldable pub header_at : List Constant → ℕ → List ℕ → Result (Header × List ℕ) ClassFault
+header_at pool total bytes = do
   flags ← number_at w16 total bytes
   this ← this_class_at pool total flags.1
   super ← super_class_at pool total this.1
   interfaces ← interfaces_at pool total super.1
-  Ok (declaration_of flags.0 this.0 super.0 interfaces.0, interfaces.1)
+  Ok (header_of flags.0 this.0 super.0 interfaces.0, interfaces.1)
 
 unfoldable pub magic_at : ℕ → List ℕ → Result (ℕ × List ℕ) ClassFault
 magic_at total bytes = number_at w32 total bytes >>= λ magic. if magic.0 == 3405691582 then Ok magic else Err
@@ -95,27 +95,27 @@ tables_at pool total bytes = do
   Ok ((fields.0, others.0), others.1)
 
 -- the fields, the methods and the class's own attributes
-unfoldable pub class_body_at : List Constant → Declaration → ℕ → List ℕ → Result (ClassFile × List ℕ) ClassFault
-class_body_at pool declaration total bytes = do
+unfoldable pub class_body_at : List Constant → Header → ℕ → List ℕ → Result (ClassFile × List ℕ) ClassFault
+class_body_at pool header total bytes = do
   fields ← members_at kinds.Field pool total bytes
   methods ← members_at kinds.Method pool total fields.1
   attributes ← attributes_at pool owners.Class total methods.1
-  Ok (class_file_of pool declaration fields.0 methods.0 attributes.0, attributes.1)
+  Ok (class_file_of pool header fields.0 methods.0 attributes.0, attributes.1)
 
 -- the constant pool, and what is after it
 unfoldable pub contents_at : ℕ → List ℕ → Result (ClassFile × List ℕ) ClassFault
 contents_at total bytes = do
   pool ← pool_at total bytes
-  declaration ← declaration_at pool.0 total pool.1
-  class_body_at pool.0 declaration.0 total declaration.1
+  header ← header_at pool.0 total pool.1
+  class_body_at pool.0 header.0 total header.1
 
 unfoldable pub class_at : ℕ → List ℕ → Result (ClassFile × List ℕ) ClassFault
 class_at total bytes = do
   magic ← magic_at total bytes
   version ← version_at total magic.1
   pool ← pool_at total version.1
-  declaration ← declaration_at pool.0 total pool.1
-  class_body_at pool.0 declaration.0 total declaration.1
+  header ← header_at pool.0 total pool.1
+  class_body_at pool.0 header.0 total header.1
 
 -- a class file and nothing after it
 unfoldable pub class_of : List ℕ → Result ClassFile ClassFault

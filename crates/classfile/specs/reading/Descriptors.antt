@@ -1,43 +1,43 @@
 -- Descriptors of fields and methods.
 use Rattle.std.specs.Prelude.{ℕ, ◌+◌, Bool, true, false, ◌||◌, List, [], ◌∷◌, nat_lt, ◌==◌, if◌then◌else◌}
-use Rattle.classfile.specs.declared.descriptor.Place.{Place}
-use Rattle.classfile.specs.declared.descriptor.Place.TheVariants as places
+use Rattle.classfile.specs.declared.descriptor.ScanState.{ScanState}
+use Rattle.classfile.specs.declared.descriptor.ScanState.TheVariants as states
 
 abbrev pub is_base : ℕ → Bool
 is_base b = b == 66 || b == 67 || b == 68 || b == 70 || b == 73 || b == 74 || b == 83 || b == 90
 
-unfoldable pub step : Place → ℕ → Place
-step places.Open b = if b == 40 then places.Parameter 0 else places.Bad
-step (places.Parameter depth) b =
-    if b == 41 then (if depth == 0 then places.Last 0 true else places.Bad) else
-    (if b == 91 then (if nat_lt depth 255 then places.Parameter (depth + 1) else places.Bad) else
-    (if b == 76 then places.ParameterName true else
-    (if is_base b then places.Parameter 0 else places.Bad)))
-step (places.ParameterName is_empty) b =
-    if b == 59 then (if is_empty then places.Bad else places.Parameter 0) else places.ParameterName false
-step (places.Last depth may_be_void) b =
-    if b == 86 then (if may_be_void then places.End else places.Bad) else
-    (if b == 91 then (if nat_lt depth 255 then places.Last (depth + 1) false else places.Bad) else
-    (if b == 76 then places.LastName true else
-    (if is_base b then places.End else places.Bad)))
-step (places.LastName is_empty) b =
-    if b == 59 then (if is_empty then places.Bad else places.End) else places.LastName false
-step places.End b = places.Bad
-step places.Bad b = places.Bad
+unfoldable pub step : ScanState → ℕ → ScanState
+step states.Open b = if b == 40 then states.Parameter 0 else states.Bad
+step (states.Parameter depth) b =
+    if b == 41 then (if depth == 0 then states.Last 0 true else states.Bad) else
+    (if b == 91 then (if nat_lt depth 255 then states.Parameter (depth + 1) else states.Bad) else
+    (if b == 76 then states.ParameterName true else
+    (if is_base b then states.Parameter 0 else states.Bad)))
+step (states.ParameterName is_empty) b =
+    if b == 59 then (if is_empty then states.Bad else states.Parameter 0) else states.ParameterName false
+step (states.Last depth may_be_void) b =
+    if b == 86 then (if may_be_void then states.End else states.Bad) else
+    (if b == 91 then (if nat_lt depth 255 then states.Last (depth + 1) false else states.Bad) else
+    (if b == 76 then states.LastName true else
+    (if is_base b then states.End else states.Bad)))
+step (states.LastName is_empty) b =
+    if b == 59 then (if is_empty then states.Bad else states.End) else states.LastName false
+step states.End b = states.Bad
+step states.Bad b = states.Bad
 
-abbrev pub is_end : Place → Bool
-is_end places.End = true
+abbrev pub is_end : ScanState → Bool
+is_end states.End = true
 is_end _ = false
 
-abbrev pub scan : Place → List ℕ → Bool
-scan place [] = is_end place
-scan place (b ∷ bs) = scan (step place b) bs
+abbrev pub scan : ScanState → List ℕ → Bool
+scan state [] = is_end state
+scan state (b ∷ bs) = scan (step state b) bs
 
 abbrev pub is_field : List ℕ → Bool
-is_field bytes = scan (places.Last 0 false) bytes
+is_field bytes = scan (states.Last 0 false) bytes
 
 abbrev pub is_method : List ℕ → Bool
-is_method bytes = scan places.Open bytes
+is_method bytes = scan states.Open bytes
 
 abbrev pub lacks_semicolon : List ℕ → Bool
 lacks_semicolon [] = true

@@ -142,8 +142,8 @@ member_body_at kind pool total at flags name descriptor bytes =
     )
 
 -- the indices of a member's name and descriptor
-unfoldable pub signature_at : MemberKind → List Constant → ℕ → List ℕ → Result ((ℕ × ℕ) × List ℕ) ClassFault
-signature_at kind pool total bytes = do
+unfoldable pub name_and_descriptor_at : MemberKind → List Constant → ℕ → List ℕ → Result ((ℕ × ℕ) × List ℕ) ClassFault
+name_and_descriptor_at kind pool total bytes = do
   name ← utf8_index_at pool total bytes
   descriptor ← descriptor_at kind pool total name.1
   Ok ((name.0, descriptor.0), descriptor.1)

@@ -1,7 +1,7 @@
 -- The store of a class's initializer, as definitions see it.
 use Rattle.machine.specs.Linked.{program_of}
 use Rattle.evaluator.specs.declared.build.Build.{Build}
-use Rattle.evaluator.specs.Regions.{region_of, environment_of}
+use Rattle.region_shape.specs.Regions.{region_of, environment_of}
 use Rattle.evaluator.specs.steps.Builds.{Building}
 
 abbrev pub build_of : Build → Building

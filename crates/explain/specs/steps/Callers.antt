@@ -11,7 +11,7 @@ use Rattle.use_graph.specs.Uses.{Calls}
 use Rattle.use_graph.specs.steps.Bodies.{IsUseGraph}
 use Rattle.use_graph.specs.steps.Searching.{AreReached}
 use Rattle.explain.specs.declared.search.Search.{Search}
-use Rattle.explain.specs.declared.paths.Step.{Step}
+use Rattle.explain.specs.declared.paths.PathStep.{PathStep}
 use Rattle.explain.specs.Paths.{CallsAt}
 use Rattle.explain.specs.steps.Trees.{IsTree}
 
@@ -41,7 +41,7 @@ pub record IsWay (P : Tables) (uses : UseGraph) (search : Search) (place : ℕ) 
   pub here : StandsAt uses.methods search.seen.items place callee
 
 -- another stands before it and may call it
-pub record IsCaller (P : Tables) (uses : UseGraph) (search : Search) (place : ℕ) (callee : DeclaredMember) (step : Step)
+pub record IsCaller (P : Tables) (uses : UseGraph) (search : Search) (place : ℕ) (callee : DeclaredMember) (step : PathStep)
     : Type 0 where
   pub before : step.place < place
   pub here : StandsAt uses.methods search.seen.items step.place step.method

@@ -6,12 +6,12 @@ use Rattle.loading.specs.Families.{Family, IsAncestor, parents_in}
 use Rattle.hierarchy.specs.MemberLookup.{interface_method_in, is_abstract, flags_in}
 use Rattle.hierarchy.specs.declared.above.Above.{Above}
 use Rattle.hierarchy.specs.declared.above.Above.TheVariants as above
-use Rattle.hierarchy.specs.declared.defaults.Found.{Found}
-use Rattle.hierarchy.specs.declared.defaults.Found.TheVariants as found
+use Rattle.hierarchy.specs.declared.defaults.FoundMethods.{FoundMethods}
+use Rattle.hierarchy.specs.declared.defaults.FoundMethods.TheVariants as found
 use Rattle.hierarchy.specs.declared.member.DeclaredMember.{DeclaredMember}
 
 -- Those of some classes with a method of some kind: none, one with its method's place, or several.
-pub data AreFound (Is : ℕ → ℕ → Type 0) (seen : List ℕ) : Found → Type 0 where
+pub data AreFound (Is : ℕ → ℕ → Type 0) (seen : List ℕ) : FoundMethods → Type 0 where
   nothing : ((i k : ℕ) → Contains seen i → ¬ Is i k) → AreFound Is seen found.Nothing
   one : {i k : ℕ} → Contains seen i → Is i k → ((j l : ℕ) → Contains seen j → Is j l → j ≡ i)
       → AreFound Is seen (found.One i k)
@@ -19,16 +19,16 @@ pub data AreFound (Is : ℕ → ℕ → Type 0) (seen : List ℕ) : Found → Ty
       → AreFound Is seen found.Several
 
 -- one more method was found
-abbrev pub found_with : Found → ℕ → ℕ → Found
+abbrev pub found_with : FoundMethods → ℕ → ℕ → FoundMethods
 found_with found.Nothing class index = found.One class index
 found_with (found.One i k) class index = if i == class then found.One i k else found.Several
 found_with found.Several class index = found.Several
 
-abbrev pub found_after : Found → ℕ → Option ℕ → Found
+abbrev pub found_after : FoundMethods → ℕ → Option ℕ → FoundMethods
 found_after before class None = before
 found_after before class (Some index) = found_with before class index
 
-abbrev pub only_of : Found → Option DeclaredMember
+abbrev pub only_of : FoundMethods → Option DeclaredMember
 only_of found.Nothing = None
 only_of (found.One i k) = Some (record { class = i; index = k })
 only_of found.Several = None

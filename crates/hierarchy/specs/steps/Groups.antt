@@ -5,12 +5,12 @@ use Rattle.hierarchy.specs.Hierarchies.{NumberedFamily}
 use Rattle.hierarchy.specs.steps.Answers.{AreAnswers}
 use Rattle.hierarchy.specs.steps.Declarations.{AreDeclared, AreWhole}
 use Rattle.hierarchy.specs.steps.ParentSteps.{AreSteps}
-use Rattle.hierarchy.specs.declared.resolve_ahead.Group.{Group}
+use Rattle.hierarchy.specs.declared.resolve_ahead.ReferenceGroup.{ReferenceGroup}
 use Rattle.hierarchy.specs.declared.resolve_ahead.Ways.{Ways}
 use Rattle.hierarchy.specs.declared.wanted.Wanted.{Wanted}
 
 -- The declarations are all there, and nothing is known yet.
-pub record IsGroup (h : NumberedFamily) (wanted : Wanted) (group : Group) : Type 0 where
+pub record IsGroup (h : NumberedFamily) (wanted : Wanted) (group : ReferenceGroup) : Type 0 where
   pub declared : AreDeclared h wanted group.declared.items
   pub wholes : AreWhole h wanted group.declared.items
   pub answers : AreAnswers h wanted group.declared.items 0 group.answers.items

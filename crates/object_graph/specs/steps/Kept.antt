@@ -4,7 +4,7 @@ use Rattle.std.specs.Prelude.{if◌then◌else◌}
 use Rattle.vm_state.specs.declared.object.Object.{Object}
 use Rattle.vm_state.specs.Objects.{ObjectRow}
 use Rattle.place_set.specs.declared.set.Place.{Place}
-use Rattle.evaluator.specs.declared.regions.Region.{Region as Held}
+use Rattle.region_shape.specs.declared.regions.Region.{Region as Held}
 
 -- an object with its number, if it is wanted
 abbrev pub only_if : Bool → ℕ × Object → List (ℕ × Object)

@@ -1,7 +1,7 @@
 -- The names of the objects of regions, class by class.
 use Rattle.std.specs.Prelude.{ℕ, zero, suc, List, [], ◌++◌, Option, map}
 use Rattle.vm_state.specs.declared.object.Object.{Object}
-use Rattle.evaluator.specs.declared.regions.Region.{Region as Held}
+use Rattle.region_shape.specs.declared.regions.Region.{Region as Held}
 use Rattle.object_graph.specs.declared.name_set.ObjectName.{ObjectName}
 use Rattle.object_graph.specs.steps.Places.{row_in, name_in}
 

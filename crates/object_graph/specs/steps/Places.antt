@@ -7,8 +7,8 @@ use Rattle.vm_state.specs.Objects.{ObjectRow, AscendsFrom, empty_row}
 use Rattle.vm_state.specs.SharedState.{Region}
 use Rattle.program.specs.Tables.{Tables, statics_in}
 use Rattle.place_set.specs.declared.set.Place.{Place}
-use Rattle.evaluator.specs.declared.regions.Region.{Region as Held}
-use Rattle.evaluator.specs.Regions.{region_in, environment_of}
+use Rattle.region_shape.specs.declared.regions.Region.{Region as Held}
+use Rattle.region_shape.specs.Regions.{region_in, environment_of}
 use Rattle.object_graph.specs.declared.name_set.ObjectName.{ObjectName}
 use Rattle.object_graph.specs.Reached.{reference_to, IsReached}
 
@@ -65,3 +65,7 @@ pub record IsReachedAt (P : Tables) (regions : List (Option Held)) (x : Place) :
   pub held : ℕ × Object
   pub at : slice_get (row_in regions x.row).objects x.index ≡ Some held
   pub reached : IsReached P (environment_of regions) (name_in x.row held)
+
+-- the first so many places of a class are among these
+abbrev pub AreFound : List Place → ℕ → ℕ → Type 0
+AreFound found c count = (i : ℕ) → i < count → Contains found (record { row = c; index = i })

@@ -9,7 +9,7 @@ use Rattle.loading.specs.Families.{Family, name_in}
 use Rattle.loading.specs.Names.{Precedes}
 use Rattle.options.specs.Patterns.{dotted}
 use Rattle.options.specs.declared.sorted_names.DottedName.{DottedName}
-use Rattle.options.specs.declared.sorted_names.Run.{Run}
+use Rattle.options.specs.declared.sorted_names.NameRange.{NameRange}
 
 -- a name with dots for slashes, and a dot (46) behind it
 abbrev pub ended : List ℕ → List ℕ
@@ -47,10 +47,10 @@ pub record IsFirstFrom (names : List DottedName) (bound : List ℕ) (place : ℕ
   pub before : (i : ℕ) (n : DottedName) → i < place → slice_get names i ≡ Some n → Precedes n.bytes.items bound
   pub after : (i : ℕ) (n : DottedName) → place ≤ i → slice_get names i ≡ Some n → ¬ Precedes n.bytes.items bound
 
-abbrev pub IsInRun : Run → ℕ → Type 0
+abbrev pub IsInRun : NameRange → ℕ → Type 0
 IsInRun run i = (run.first ≤ i) × (i < run.end)
 
 -- the names that the text and a dot begin stand in this run
-pub record IsRunOf (names : List DottedName) (outer : List ℕ) (run : Run) : Type 0 where
+pub record IsRunOf (names : List DottedName) (outer : List ℕ) (run : NameRange) : Type 0 where
   pub within : run.end ≤ length names
   pub places : (i : ℕ) (n : DottedName) → slice_get names i ≡ Some n → IsInRun run i ↔ Begins outer n.bytes.items

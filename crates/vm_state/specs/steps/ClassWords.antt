@@ -5,6 +5,8 @@ use Rattle.built_in.specs.declared.class_id.ClassId.TheVariants.{Given, BuiltIn,
 use Rattle.built_in.specs.declared.class_id.ElementType.{ElementType}
 use Rattle.built_in.specs.declared.class_id.ElementType.TheVariants as element
 use Rattle.vm_state.specs.declared.kept.ClassWord.{ClassWord}
+use Rattle.vm_state.specs.declared.kept.Expected.{Expected}
+use Rattle.vm_state.specs.declared.kept.Expected.TheVariants as expected
 use Rattle.vm_state.specs.declared.kept.Primitive.{Primitive}
 use Rattle.vm_state.specs.declared.kept.Primitive.TheVariants as primitive
 use Rattle.vm_state.specs.declared.kept.ClassWord.TheVariants as word
@@ -30,3 +32,8 @@ class_of_word (word.OfPrimitive d p) = array_of d (element_of p)
 class_of_word (word.OfGiven d c) = array_of d (element.Given c)
 class_of_word (word.OfBuiltIn d c) = array_of d (element.BuiltIn c)
 class_of_word (word.OfUnknown d s) = array_of d (element.Unknown s)
+
+-- The class that a store expects.
+abbrev pub expected_class : Expected → ClassId
+expected_class (expected.Given c) = Given c
+expected_class (expected.ArrayOf p) = array_of 1 (element_of p)

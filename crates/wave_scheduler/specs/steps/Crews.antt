@@ -4,9 +4,9 @@ use Rattle.semantics.specs.Programs.{Program}
 use Rattle.semantics.specs.Quiet.{Environment}
 use Rattle.program.specs.Tables.{Tables}
 use Rattle.machine.specs.Linked.{program_of}
-use Rattle.evaluator.specs.declared.regions.Region.{Region}
+use Rattle.region_shape.specs.declared.regions.Region.{Region}
 use Rattle.evaluator.specs.Outcomes.{IsUnbarred}
-use Rattle.evaluator.specs.Regions.{environment_of}
+use Rattle.region_shape.specs.Regions.{environment_of}
 use Rattle.wave_scheduler.specs.declared.tainted.Tainted.{Tainted}
 use Rattle.wave_scheduler.specs.declared.wave.Wave.{Wave}
 use Rattle.wave_scheduler.specs.steps.Tainting.{vertex_in, IsSeen, IsSearched}

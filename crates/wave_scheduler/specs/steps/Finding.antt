@@ -16,7 +16,7 @@ use Rattle.initializer_analysis.specs.RefusedUses.{AreFirstRefused}
 use Rattle.evaluator.specs.declared.outcome.Outcome.{Outcome as Found}
 use Rattle.evaluator.specs.declared.outcome.Outcome.TheVariants as found
 use Rattle.evaluator.specs.Outcomes.{reason_of}
-use Rattle.evaluator.specs.Regions.{region_of}
+use Rattle.region_shape.specs.Regions.{region_of}
 use Rattle.wave_scheduler.specs.Settled.{Outcome, Wave, Refused, Stopped, Settled, region_in}
 use Rattle.wave_scheduler.specs.steps.Waves.{IsTriedIn, AreRefusedIn, dependent}
 

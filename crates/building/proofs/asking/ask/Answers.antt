@@ -1,6 +1,6 @@
 use Rattle.std.proofs.Common.{List, ℕ, subst, IfErr, IfOk}
 use Rattle.std.proofs.lemmas.Result.{IfErr-weaker, IfOk-weaker}
-use Rattle.building.specs.declared.asking.Asked.{Asked}
+use Rattle.building.specs.declared.asking.AskedOptions.{AskedOptions}
 use Rattle.building.specs.Builds.{text_of, patterns_in}
 use Rattle.building.specs.Refusals.{ForcingFails, ListsFail, OptionsFail, lists, patterns}
 use Rattle.building.specs.steps.Asking.{Always, AsksBy}
@@ -12,10 +12,10 @@ returns-in-Ok-clause-asked c =
     let P = c.args.program.now in
     let run = text_of c.args.options.now.run_time in
     let by_run =
-    subst (λ (ps : List (List ℕ)). IfOk c.ask_by.result (λ (a : Asked). AsksBy P ps c.in-Ok.lists.build_time a))
+    subst (λ (ps : List (List ℕ)). IfOk c.ask_by.result (λ (a : AskedOptions). AsksBy P ps c.in-Ok.lists.build_time a))
     c.in-Ok.ensures.run_time c.ask_by.ensures.asked in
     let by_both =
-    subst (λ (ps : List (List ℕ)). IfOk c.ask_by.result (λ (a : Asked). AsksBy P (patterns_in run) ps a))
+    subst (λ (ps : List (List ℕ)). IfOk c.ask_by.result (λ (a : AskedOptions). AsksBy P (patterns_in run) ps a))
     c.in-Ok.ensures.build_time by_run in
     IfOk-weaker c.ask_by.result _ _
     (λ asked by. record { run_list = c.in-Ok.ensures.run_list; build_list = c.in-Ok.ensures.build_list; by = by })

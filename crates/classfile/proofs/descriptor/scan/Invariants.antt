@@ -3,4 +3,4 @@ use Rattle.classfile.specs.reading.Descriptors.{scan}
 use Rattle.classfile.proofs.descriptor.scan.Given as goal
 
 abbrev pub invariant-loop-byte : goal.invariant-loop-byte
-invariant-loop-byte l = scan l.place (drop l.byte-index l.bytes) ≡ scan l.fn.place l.bytes
+invariant-loop-byte l = scan l.state (drop l.byte-index l.bytes) ≡ scan l.fn.state l.bytes

@@ -18,3 +18,6 @@ pub returns-in-Ok-world-clause-built : goal.returns-in-Ok-world-clause-built
 returns-in-Ok-world-clause-built c texts run_time build_time budget is =
     let same = c.in-Ok.ensures.same is.image is.own_strings (inl is.text) in
     read_back is.image c.in-Ok.image same texts run_time build_time budget is.of
+
+pub returns-in-Ok-world-clause-image : goal.returns-in-Ok-world-clause-image
+returns-in-Ok-world-clause-image c = c.in-Ok.ensures.text

@@ -13,7 +13,7 @@ returns-in-Ok-clause-refused g c = λ refused.
     let after = g.W.Write.contents c.do_given.result.2 in
     elim (c.do_given.ensures.refused refused) [
       | inl same ↦ inl same
-      | inr run ↦ inr (with_lists holds c.args.asked c.in-Ok.names c.args.given.now
+      | inr run ↦ inr (with_lists holds c.args.listed.asked c.in-Ok.names c.args.listed.given.now
           (λ (request : Request). IsOfRun holds request before after) c.with_files-request.result c.requires
           c.in-Ok.ensures c.with_files-request.ensures run)
     ]
@@ -24,7 +24,7 @@ returns-in-Ok-clause-done g c = λ over.
     let new = g.F.Files.holds c.do_given.new.files in
     let before = g.W.Write.contents c.args.out in
     let after = g.W.Write.contents c.do_given.result.2 in
-    with_lists holds c.args.asked c.in-Ok.names c.args.given.now
+    with_lists holds c.args.listed.asked c.in-Ok.names c.args.listed.given.now
     (λ (request : Request). IsApart request × IsDone holds new before after request c.do_given.result.0)
     c.with_files-request.result c.requires c.in-Ok.ensures c.with_files-request.ensures
     (c.do_given.ensures.done over)

@@ -5,16 +5,16 @@ use Rattle.cli.proofs.run.run_image.Goals as goal
 
 pub returns-in-Ok-clause-refused : goal.returns-in-Ok-clause-refused
 returns-in-Ok-clause-refused g c = λ refused.
-    inr (of_image_run (g.F.Files.holds c.args.files.now) (world_of c.in-Ok.field-0.world)
-    (g.W.Write.contents c.args.out) (g.W.Write.contents c.run_told-status.result.1) c.args.words.now
-    c.in-Ok.field-0.image c.in-Ok.field-0.image.program refl c.in-Ok.ensures.begun
-    (c.run_told-status.ensures.refused refused))
+    inr (of_image_run (g.F.Files.holds c.args.files.now) (world_of c.in-Ok.start.world)
+    (g.W.Write.contents c.args.out) (g.W.Write.contents c.run_told.result.2) c.args.words.now
+    c.in-Ok.start.image c.in-Ok.start.image.program refl c.in-Ok.ensures.begun
+    (c.run_told.ensures.refused refused))
 
 pub returns-in-Ok-clause-done : goal.returns-in-Ok-clause-done
 returns-in-Ok-clause-done g c = λ over.
     let before = g.W.Write.contents c.args.out in
-    let after = g.W.Write.contents c.run_told-status.result.1 in
-    let new = g.F.Files.holds c.run_told-status.new.files in
-    has_run_image (g.F.Files.holds c.args.files.now) (world_of c.in-Ok.field-0.world) before after new
-    c.args.words.now c.in-Ok.field-0.image c.in-Ok.field-0.image.program c.run_told-status.result.0 refl
-    c.in-Ok.ensures.begun (rw c.start.ensures.same at (c.run_told-status.ensures.done over))
+    let after = g.W.Write.contents c.run_told.result.2 in
+    let new = g.F.Files.holds c.run_told.new.files in
+    has_run_image (g.F.Files.holds c.args.files.now) (world_of c.in-Ok.start.world) before after new
+    c.args.words.now c.in-Ok.start.image c.in-Ok.start.image.program c.run_told.result.0 refl
+    c.in-Ok.ensures.begun (rw c.start.ensures.same at (c.run_told.ensures.done over))

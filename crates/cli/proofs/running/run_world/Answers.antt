@@ -3,7 +3,8 @@ use Rattle.vm_state.specs.Output.{Print, text_of}
 use Rattle.machine.specs.Linked.{program_of}
 use Rattle.init_engine.specs.Turns.{world_of}
 use Rattle.cli.specs.Running.{SendsTo}
-use Rattle.cli.proofs.RunningLemmas.{appends_nothing, still_sent, slice_sent, cut_by_memory, cut_in_sending, run_ends}
+use Rattle.sinks.proofs.AppendsLemmas.{appends_nothing}
+use Rattle.cli.proofs.RunningLemmas.{still_sent, slice_sent, cut_by_memory, cut_in_sending, run_ends}
 use Rattle.cli.proofs.running.run_world.Goals as goal
 
 pub slices-init : goal.slices-init

@@ -1,6 +1,6 @@
 use Rattle.std.proofs.Common.{◌≤◌, ◌-◌, ℕ, List, length, length-drop, ap, subst, arith, take}
 use Rattle.std.specs.Io.KnownBytes.{Appends}
-use Rattle.cli.proofs.RunningLemmas.{appends_nothing, appends_more}
+use Rattle.sinks.proofs.AppendsLemmas.{appends_nothing, appends_more}
 use Rattle.cli.proofs.running.send_all.Goals as goal
 
 pub loop-at-init : goal.loop-at-init

@@ -1,5 +1,5 @@
 use Rattle.machine.specs.Linked.{program_of}
-use Rattle.evaluator.specs.Regions.{region_of, environment_of}
+use Rattle.region_shape.specs.Regions.{region_of, environment_of}
 use Rattle.evaluator.proofs.SettlesLemmas.{settled, stopped}
 use Rattle.evaluator.proofs.settling.evaluate.Goals as goal
 

@@ -1,4 +1,4 @@
-use Rattle.evaluator.specs.Regions.{region_of, environment_of}
+use Rattle.region_shape.specs.Regions.{region_of, environment_of}
 use Rattle.evaluator.proofs.LentLemmas.{leaves_whole}
 use Rattle.evaluator.proofs.settling.settle.Goals as goal
 

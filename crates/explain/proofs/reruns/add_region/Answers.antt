@@ -1,7 +1,7 @@
 use Rattle.std.proofs.Common.{◌∙◌, List, Some, ap}
 use Rattle.vm_state.specs.declared.value.Value.{Value}
 use Rattle.vm_state.specs.Objects.{ObjectRow}
-use Rattle.evaluator.specs.Regions.{region_of}
+use Rattle.region_shape.specs.Regions.{region_of}
 use Rattle.explain.proofs.OthersLemmas.{put_here, put_other}
 use Rattle.explain.proofs.reruns.add_region.Goals as goal
 

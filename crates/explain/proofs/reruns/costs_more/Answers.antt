@@ -1,6 +1,6 @@
 use Rattle.machine.specs.Linked.{program_of}
 use Rattle.semantics.proofs.RefusalsLemmas.{stop_excludes_lem, one_stop_lem}
-use Rattle.evaluator.specs.Regions.{environment_of}
+use Rattle.region_shape.specs.Regions.{environment_of}
 use Rattle.explain.proofs.RerunsLemmas.{told_over}
 use Rattle.explain.proofs.reruns.costs_more.Goals as goal
 

@@ -1,6 +1,6 @@
 use Rattle.std.proofs.Common.{◌≡◌, ℕ, ◌+◌, ◌-◌, ◌<◌, ◌≤◌}
 use Rattle.machine.specs.Linked.{program_of}
-use Rattle.evaluator.specs.Regions.{environment_of}
+use Rattle.region_shape.specs.Regions.{environment_of}
 use Rattle.explain.specs.Reruns.{CostsMore}
 use Rattle.explain.proofs.reruns.least_budget.Given as goal
 

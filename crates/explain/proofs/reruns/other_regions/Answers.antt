@@ -1,5 +1,5 @@
 use Rattle.std.proofs.Common.{◌≤◌, length}
-use Rattle.evaluator.specs.Regions.{environment_of}
+use Rattle.region_shape.specs.Regions.{environment_of}
 use Rattle.explain.specs.Reruns.{without}
 use Rattle.explain.proofs.OthersLemmas.{first_all, first_more}
 use Rattle.explain.proofs.reruns.other_regions.Goals as goal

@@ -1,4 +1,4 @@
-use Rattle.evaluator.specs.Regions.{environment_of}
+use Rattle.region_shape.specs.Regions.{environment_of}
 use Rattle.explain.specs.Reruns.{without}
 use Rattle.explain.specs.steps.Others.{AreFirst}
 use Rattle.explain.proofs.reruns.other_regions.Given as goal

@@ -3,7 +3,7 @@ use Rattle.program.specs.Tables.{Tables}
 use Rattle.machine.specs.Linked.{program_of}
 use Rattle.semantics.specs.Quiet.{Environment}
 use Rattle.semantics.proofs.RefusalsLemmas.{stop_excludes_lem}
-use Rattle.evaluator.specs.Regions.{environment_of}
+use Rattle.region_shape.specs.Regions.{environment_of}
 use Rattle.explain.specs.Reruns.{IsRerun}
 use Rattle.explain.proofs.RerunsLemmas.{ends_at}
 use Rattle.explain.proofs.reruns.run_again.Goals as goal

@@ -2,7 +2,7 @@ use Rattle.std.proofs.Common.{ℕ, ◌+◌, take, subst, sym}
 use Rattle.hierarchy.specs.MemberLookup.{IsDefault}
 use Rattle.hierarchy.specs.steps.Answers.{classes_with}
 use Rattle.hierarchy.specs.steps.Defaults.{AreFound}
-use Rattle.hierarchy.specs.declared.defaults.Found.{Found}
+use Rattle.hierarchy.specs.declared.defaults.FoundMethods.{FoundMethods}
 use Rattle.hierarchy.proofs.AnswersLemmas.{several_there, none_there}
 use Rattle.hierarchy.proofs.WordLemmas.{no_bit}
 use Rattle.hierarchy.specs.steps.DeclarationBits.{Has}
@@ -16,8 +16,9 @@ returns-then-word-eq0 c = λ family name d key bits are.
 pub returns-then-are_several : goal.returns-then-are_several
 returns-then-are_several c = λ family name d key bits are.
     let is = c.are_several.ensures c.if-are_several.true in
-    subst (λ (f : Found). AreFound (IsDefault family name d)
+    subst (λ (f : FoundMethods). AreFound (IsDefault family name d)
     (classes_with key (take (c.args.start + 64) c.args.declared.now)) f) (sym is)
     (several_there (IsDefault family name d) c.args.declared.now c.args.start key c.args.word bits
-    (subst (λ (f : Found). AreFound (IsDefault family name d) (classes_with key (take c.args.start c.args.declared.now))
+    (subst (λ (f : FoundMethods). AreFound (IsDefault family name d) (classes_with key
+    (take c.args.start c.args.declared.now))
     f) is are))

@@ -1,7 +1,7 @@
 use Rattle.std.proofs.Common.{◌≡◌, ℕ, List, map, take, get_or, sym, subst, ◌∙◌, arith}
 use Rattle.std.specs.List.{Contains}
 use Rattle.loading.specs.Families.{parents_in}
-use Rattle.hierarchy.specs.declared.parents_first.Step.{Step}
+use Rattle.hierarchy.specs.declared.parents_first.ClassWithParents.{ClassWithParents}
 use Rattle.hierarchy.specs.steps.DeclarationBits.{AreKnown}
 use Rattle.hierarchy.specs.steps.ParentSteps.{AreSteps, HasParents, class_of_step}
 use Rattle.hierarchy.proofs.AmongLemmas.{step_within, step_after, step_next, all_done}
@@ -13,7 +13,7 @@ fill_class-requires c =
     let steps = c.as_slice-steps.result.now in
     let parents = c.args.order.now.parents.items in
     let are : AreSteps c.args.family.now steps parents =
-    subst (λ (s : List Step). AreSteps c.args.family.now s parents) (sym c.as_slice-steps.ensures.value)
+    subst (λ (s : List ClassWithParents). AreSteps c.args.family.now s parents) (sym c.as_slice-steps.ensures.value)
     c.requires.order in
     omega (
       arith,
@@ -26,7 +26,7 @@ bounds-own-step c =
     let steps = c.as_slice-steps.result.now in
     let parents = c.args.order.now.parents.items in
     let are : AreSteps c.args.family.now steps parents =
-    subst (λ (s : List Step). AreSteps c.args.family.now s parents) (sym c.as_slice-steps.ensures.value)
+    subst (λ (s : List ClassWithParents). AreSteps c.args.family.now s parents) (sym c.as_slice-steps.ensures.value)
     c.requires.order in
     omega (
       arith,
@@ -47,7 +47,8 @@ loop-step-preserved c =
     let parents = c.args.order.now.parents.items in
     let i = c.loop-step.step-index in
     let are : AreSteps family steps parents =
-    subst (λ (s : List Step). AreSteps family s parents) (sym c.as_slice-steps.ensures.value) c.requires.order in
+    subst (λ (s : List ClassWithParents). AreSteps family s parents) (sym c.as_slice-steps.ensures.value)
+    c.requires.order in
     let small = c.loop-step-test.true in
     let known : HasParents family parents (get_or steps i (record { class = 0; from = 0; to = 0 })) =
     are.known i (record { class = 0; from = 0; to = 0 }) small in
@@ -71,7 +72,7 @@ returns-clause-filled c = λ declares d k n class fits there mine small.
     let steps = c.as_slice-steps.result.now in
     let parents = c.args.order.now.parents.items in
     let are : AreSteps c.args.family.now steps parents =
-    subst (λ (s : List Step). AreSteps c.args.family.now s parents) (sym c.as_slice-steps.ensures.value)
+    subst (λ (s : List ClassWithParents). AreSteps c.args.family.now s parents) (sym c.as_slice-steps.ensures.value)
     c.requires.order in
     (c.loop-step.invariant.filled declares d k n fits there mine class
     (all_done c.args.family.now steps parents are c.loop-step.step-index class c.loop-step-test.false small)).1

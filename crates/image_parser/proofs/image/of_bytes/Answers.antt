@@ -1,5 +1,4 @@
 use Rattle.std.proofs.Common.{inr}
-use Rattle.image_parser.specs.declared.image.Parsed.{Parsed}
 use Rattle.image_parser.specs.ImageFaults.ImageFails.{frame}
 use Rattle.image_parser.proofs.ImageLemmas.{long_enough, parts_accepted, parts_refused}
 use Rattle.image_parser.proofs.image.of_bytes.Goals as goal
@@ -9,9 +8,8 @@ of_parts-requires c = long_enough c.args.bytes.now c.in-Ok.version c.in-Ok.parts
 
 pub returns-in-Ok-clause-text : goal.returns-in-Ok-clause-text
 returns-in-Ok-clause-text c =
-    parts_accepted (λ (p : Parsed). (p.program.family, p.regions)) c.args.bytes.now c.in-Ok.version c.in-Ok.parts.now
-    c.of_parts.result
-    c.in-Ok.ensures.parts c.of_parts.ensures.text
+    parts_accepted c.args.bytes.now
+    c.in-Ok.version c.in-Ok.parts.now c.of_parts.result c.in-Ok.ensures.parts c.of_parts.ensures.text
 
 pub returns-in-Ok-clause-fault : goal.returns-in-Ok-clause-fault
 returns-in-Ok-clause-fault c =

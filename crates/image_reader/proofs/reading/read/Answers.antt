@@ -1,37 +1,20 @@
-use Rattle.std.proofs.Common.{◌∙◌, ℕ, List, inl, inr, subst, sym}
-use Rattle.image_format.specs.Images.{ImageText, SomeText}
-use Rattle.image_writer.specs.ImageTexts.{told_of}
-use Rattle.image_reader.proofs.ReadAgainLemmas.{read_again, some_files, some_classes}
+use Rattle.std.proofs.Common.{arith}
+use Rattle.image_reader.proofs.ReadAgainLemmas.{image_read, image_refused, no_memory}
 use Rattle.image_reader.proofs.reading.read.Goals as goal
 
-pub returns-in-Ok-image_of-clause-only_text : goal.returns-in-Ok-image_of-clause-only_text
-returns-in-Ok-image_of-clause-only_text c family regions text =
-    let same = c.in-Ok.ensures.only_text family regions text in
-    (c.in-Ok-image_of.ensures.family ∙ same.0, c.in-Ok-image_of.ensures.told ∙ same.1)
-
-pub returns-in-Ok-image_of-clause-written : goal.returns-in-Ok-image_of-clause-written
-returns-in-Ok-image_of-clause-written c I text same =
-    let read : SomeText c.args.bytes.now I.program.family (told_of I) =
-    inl (subst (λ (bytes : List ℕ). ImageText bytes I.program.family (told_of I)) (sym same) text) in
-    let told = c.in-Ok.ensures.only_text I.program.family (told_of I) read in
-    (c.in-Ok-image_of.ensures.family ∙ told.0, c.in-Ok-image_of.ensures.told ∙ told.1)
-
-pub returns-in-Ok-image_of-clause-only_fault : goal.returns-in-Ok-image_of-clause-only_fault
-returns-in-Ok-image_of-clause-only_fault c x fails =
-    elim (c.in-Ok.ensures.only_fault x fails) [ inl refused ↦ absurd cc | inr refused ↦ absurd cc ]
-
-pub returns-in-Ok-image_of-clause-same : goal.returns-in-Ok-image_of-clause-same
-returns-in-Ok-image_of-clause-same c I own text =
+pub image_of-requires : goal.image_of-requires
+image_of-requires c =
     let parsed = c.in-Ok.ensures in
-    let told = parsed.only_text I.program.family (told_of I) text in
-    let image = c.in-Ok-image_of.ensures in
-    read_again I c.in-Ok.parsed.program c.in-Ok.parsed.regions c.in-Ok-image_of.image own
-    (some_files c.args.bytes.now I.program.family (told_of I) text)
-    (some_classes c.args.bytes.now c.in-Ok.parsed.program.family c.in-Ok.parsed.regions parsed.text)
-    parsed.program parsed.own_strings told.0 told.1 image.program image.holds image.same
+    record { program = parsed.program; fits = parsed.text.fits; short = parsed.text.short; files = parsed.files }
 
-pub returns-in-Err-clause-written : goal.returns-in-Err-clause-written
-returns-in-Err-clause-written c I text same =
-    let read : SomeText c.args.bytes.now I.program.family (told_of I) =
-    inl (subst (λ (bytes : List ℕ). ImageText bytes I.program.family (told_of I)) (sym same) text) in
-    c.in-Err.ensures.only_text I.program.family (told_of I) read
+pub returns-in-Ok-image_of : goal.returns-in-Ok-image_of
+returns-in-Ok-image_of c =
+    let image = c.in-Ok-image_of.ensures in
+    image_read c.args.bytes.now (λ i. omega (arith, c.type_inv.bytes i)) c.in-Ok.parsed c.in-Ok-image_of.image
+    c.in-Ok.ensures image.family image.told image.program image.files
+
+pub returns-in-Err-image_of : goal.returns-in-Err-image_of
+returns-in-Err-image_of c = no_memory c.args.bytes.now
+
+pub returns-in-Err : goal.returns-in-Err
+returns-in-Err c = image_refused c.args.bytes.now c.in-Err.fault c.in-Err.ensures

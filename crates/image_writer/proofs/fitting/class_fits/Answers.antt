@@ -1,7 +1,7 @@
 use Rattle.std.proofs.Common.{◌≡◌, ◌∙◌, ℕ, Some, length, subst}
 use Rattle.vm_state.specs.declared.object.Object.{Object}
 use Rattle.program.specs.Tables.{statics_in}
-use Rattle.evaluator.specs.Regions.{region_of}
+use Rattle.region_shape.specs.Regions.{region_of}
 use Rattle.std.specs.List.{All}
 use Rattle.image_format.proofs.RowsLemmas.{from_row}
 use Rattle.image_writer.specs.steps.Fits.{FitsType, RegionFits}

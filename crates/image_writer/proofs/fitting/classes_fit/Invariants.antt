@@ -1,5 +1,5 @@
 use Rattle.std.proofs.Common.{ℕ, ◌<◌}
-use Rattle.evaluator.specs.Regions.{environment_of}
+use Rattle.region_shape.specs.Regions.{environment_of}
 use Rattle.image_writer.specs.steps.Fits.{ClassFits}
 use Rattle.image_writer.proofs.fitting.classes_fit.Given as goal
 

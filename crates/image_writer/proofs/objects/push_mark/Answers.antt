@@ -1,5 +1,5 @@
 use Rattle.std.proofs.Common.{sym}
-use Rattle.evaluator.specs.Regions.{region_of, environment_of}
+use Rattle.region_shape.specs.Regions.{region_of, environment_of}
 use Rattle.image_writer.proofs.SizesLemmas.{region_sized}
 use Rattle.image_writer.proofs.objects.push_mark.Goals as goal
 

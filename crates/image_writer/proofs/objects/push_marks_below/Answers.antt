@@ -1,5 +1,5 @@
 use Rattle.std.proofs.Common.{option_map}
-use Rattle.evaluator.specs.Regions.{environment_of}
+use Rattle.region_shape.specs.Regions.{environment_of}
 use Rattle.image_format.specs.declared.version.Version.TheVariants.{Two}
 use Rattle.image_format.specs.Texts.{mark_text}
 use Rattle.image_format.specs.Told.{told_region}

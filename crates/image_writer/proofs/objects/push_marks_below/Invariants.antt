@@ -1,6 +1,6 @@
 use Rattle.std.proofs.Common.{◌≡◌, ◌++◌, map, option_map}
 use Rattle.std.specs.List.{flat_map, range_with_len}
-use Rattle.evaluator.specs.Regions.{environment_of}
+use Rattle.region_shape.specs.Regions.{environment_of}
 use Rattle.image_format.specs.declared.version.Version.TheVariants.{Two}
 use Rattle.image_format.specs.Texts.{mark_text}
 use Rattle.image_format.specs.Told.{told_region}

@@ -7,7 +7,7 @@ use Rattle.vm_state.specs.declared.object.Object.{Object}
 use Rattle.vm_state.specs.Pools.{pool_by}
 use Rattle.vm_state.specs.Statics.{field_in}
 use Rattle.program.specs.Tables.{Tables, statics_in}
-use Rattle.image_format.specs.declared.object.KeptObject.{KeptObject}
+use Rattle.image_format.specs.Regions.{KeptObject}
 use Rattle.image_format.specs.declared.version.Version.TheVariants.{Two}
 use Rattle.image_format.specs.Texts.{value_text, kept_text}
 use Rattle.image_format.specs.Told.{told_fields, told_kept, told_objects}

@@ -1,5 +1,5 @@
 use Rattle.std.proofs.Common.{◌∙◌, ap, subst}
-use Rattle.evaluator.specs.Regions.{environment_of}
+use Rattle.region_shape.specs.Regions.{environment_of}
 use Rattle.loading.specs.Families.{IsFamily}
 use Rattle.loading.specs.Files.{Links}
 use Rattle.program.specs.Programs.{files_of}

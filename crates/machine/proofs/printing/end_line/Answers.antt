@@ -10,6 +10,7 @@ returns-clause-gives g c =
     λ p. gives_at g.S.Store.stopped (g.S.Store.run c.args.by (g.S.Store.state c.args.store.now p))
     (g.S.Store.run c.args.by (g.S.Store.state c.print_on.new.store p)) _ _ c.print_on.new.frame c.print_on.result
     (ap (g.S.Store.run c.args.by (g.S.Store.state c.args.store.now p))
-    (line_ended c.args.program.now c.args.call c.args.frame.now c.in-Ok.receiver c.in_ok-text.text (rw operands at c.in-Ok.ensures.ok)
+    (line_ended c.args.program.now c.args.call c.args.frame.now c.in-Ok.receiver c.in_ok-text.text
+    (rw operands at c.in-Ok.ensures.ok)
     c.in_ok-text.ensures))
     (c.print_on.ensures.gives p)

@@ -12,5 +12,6 @@ returns-clause-gives g c =
     (ap (g.S.Store.run c.args.by (g.S.Store.state c.args.store.now p))
     (value_printed c.args.program.now c.args.call c.args.frame.now c.in-Ok-second_reference.receiver c.args.what
     c.args.line c.in-Ok.value c.in-Some.text c.in_ok-text-2.text (rw operands at c.in-Ok.ensures.ok)
-    (sym c.in_ok-text.ensures ∙ c.in-Some.is) (rw operands at c.in-Ok-second_reference.ensures.ok) c.in_ok-text-2.ensures))
+    (sym c.in_ok-text.ensures ∙ c.in-Some.is) (rw operands at c.in-Ok-second_reference.ensures.ok)
+    c.in_ok-text-2.ensures))
     (c.print_on.ensures.gives p)

@@ -1,5 +1,5 @@
 use Rattle.std.proofs.Common.{refl}
-use Rattle.evaluator.specs.Regions.{environment_of}
+use Rattle.region_shape.specs.Regions.{environment_of}
 use Rattle.object_graph.specs.Cuts.{AreReached, IsCutOf}
 use Rattle.object_graph.specs.Images.{AreSmall}
 use Rattle.object_graph.proofs.CuttingLemmas.{all_cut, left_fits}

@@ -1,12 +1,12 @@
 use Rattle.std.proofs.Common.{◌∙◌, ◌≤◌, ◌-◌, refl, ap, subst, arith, take, ℕ, List, length, length-drop}
 use Rattle.std.specs.Io.KnownBytes.{Appends}
-use Rattle.sinks.proofs.AppendsLemmas.{appends_none, appends_more}
+use Rattle.sinks.proofs.AppendsLemmas.{appends_nothing, appends_more}
 use Rattle.sinks.proofs.sending.put_all.Goals as goal
 
 pub loop-at-init : goal.loop-at-init
 loop-at-init g c = record {
   within = omega arith;
-  got = appends_none (g.S.Sink.got c.args.sink.now) c.args.bytes.now;
+  got = appends_nothing (g.S.Sink.got c.args.sink.now);
   well = refl;
 }
 

@@ -9,7 +9,8 @@ use Rattle.init_engine.specs.Turns.{world_of}
 use Rattle.thread_runner.specs.Answers.{IsBeginning}
 use Rattle.thread_runner.specs.Sendings.{sent_of}
 use Rattle.thread_runner.proofs.AnswerLemmas.{answer_of, lines_midway, midway}
-use Rattle.thread_runner.proofs.SendingLemmas.{prints_sent, nothing_sent, place_grown, place_within, slice_sent}
+use Rattle.sinks.proofs.AppendsLemmas.{appends_nothing}
+use Rattle.thread_runner.proofs.SendingLemmas.{prints_sent, place_grown, place_within, slice_sent}
 use Rattle.thread_runner.proofs.alone.run_alone.Goals as goal
 
 pub slices-init : goal.slices-init
@@ -17,7 +18,7 @@ slices-init g c = record {
   turns = c.new-turning.ensures.begun (program_of c.args.program.now);
   ready = c.new-turning.ensures.ready c.args.program.now;
   place = (omega arith, omega arith);
-  sent = nothing_sent (g.S.Sink.got c.args.sink.now);
+  sent = appends_nothing (g.S.Sink.got c.args.sink.now);
   part = refl;
   well = refl;
 }

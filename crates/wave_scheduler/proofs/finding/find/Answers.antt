@@ -1,6 +1,6 @@
 use Rattle.std.proofs.Common.{inl, inr, option_map}
 use Rattle.machine.specs.Linked.{program_of}
-use Rattle.evaluator.specs.Regions.{environment_of, region_of}
+use Rattle.region_shape.specs.Regions.{environment_of, region_of}
 use Rattle.wave_scheduler.specs.Outcomes.{outcome_of}
 use Rattle.wave_scheduler.proofs.CrewsLemmas.{run_by}
 use Rattle.wave_scheduler.proofs.finding.find.Goals as goal

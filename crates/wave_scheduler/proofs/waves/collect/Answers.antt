@@ -1,7 +1,7 @@
 use Rattle.std.proofs.Common.{ℕ, ◌<◌, List, length, slice_index, take, subst, sym, ◌∙◌, add-one, option_map, arith}
 use Rattle.std.proofs.lemmas.List.{length-map, take_all}
 use Rattle.loading.specs.Families.{Family, IsFamily, AreParentsWithin}
-use Rattle.evaluator.specs.Regions.{environment_of, region_of, region_in}
+use Rattle.region_shape.specs.Regions.{environment_of, region_of, region_in}
 use Rattle.wave_scheduler.specs.Outcomes.{outcome_of, settled_of}
 use Rattle.wave_scheduler.specs.steps.Finding.{TriesThese}
 use Rattle.wave_scheduler.specs.steps.Waves.{AreTriedBelow}

@@ -1,6 +1,6 @@
 use Rattle.std.proofs.Common.{subst, slice_index, [], arith}
 use Rattle.loading.specs.Families.{Family, IsFamily, AreParentsWithin}
-use Rattle.evaluator.specs.Regions.{environment_of}
+use Rattle.region_shape.specs.Regions.{environment_of}
 use Rattle.wave_scheduler.specs.Outcomes.{settled_of}
 use Rattle.wave_scheduler.proofs.FindingLemmas.{region_seen}
 use Rattle.wave_scheduler.proofs.TaintedLemmas.{searched}

@@ -3,7 +3,7 @@ use Rattle.vm_state.specs.declared.value.Maker.TheVariants.{Class}
 use Rattle.vm_state.specs.Pools.{pool_by}
 use Rattle.vm_state.specs.SharedState.{same_maker, with_slot}
 use Rattle.machine.specs.Linked.{program_of}
-use Rattle.evaluator.specs.Regions.{region_of, environment_of}
+use Rattle.region_shape.specs.Regions.{region_of, environment_of}
 use Rattle.evaluator.proofs.StoreLemmas.{set_both}
 use Rattle.evaluator.proofs.build.BuildStore.set_named.Goals as goal
 

@@ -1,7 +1,7 @@
 use Rattle.std.proofs.Common.{◌≡◌, rules}
 use Rattle.vm_state.specs.Statics.{field_in}
 use Rattle.machine.specs.Linked.{program_of}
-use Rattle.evaluator.specs.Regions.{region_of, environment_of}
+use Rattle.region_shape.specs.Regions.{region_of, environment_of}
 use Rattle.evaluator.proofs.StoreLemmas.{wrote}
 use Rattle.evaluator.proofs.build.BuildStore.write_static.Goals as goal
 

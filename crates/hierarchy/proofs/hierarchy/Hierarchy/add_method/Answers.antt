@@ -6,7 +6,8 @@ use Rattle.hierarchy.specs.steps.FoundAhead.{given_method}
 use Rattle.hierarchy.specs.steps.MemberKeys.{AreNumbers, IsLookup}
 use Rattle.hierarchy.specs.steps.Sought.{sought_name}
 use Rattle.hierarchy.specs.declared.member.DeclaredMember.{DeclaredMember}
-use Rattle.hierarchy.proofs.FoundAheadLemmas.{one_more, one_name}
+use Rattle.hierarchy.proofs.FoundAheadLemmas.{one_more}
+use Rattle.hierarchy.proofs.MemberKeysLemmas.{one_key}
 use Rattle.hierarchy.proofs.hierarchy.Hierarchy.add_method.Goals as goal
 
 pub returns-in_ok-insert : goal.returns-in_ok-insert
@@ -24,6 +25,6 @@ returns-in_ok-insert c =
     subst (IsLookup c.args.self.now.texts sought) (c.is_of.ensures c.if-not-is_of.false)
     c.sought-sought.ensures.lookup in
     subst (λ (n : NameAndType). Resolves n answer.class member)
-    (one_name c.args.self.now.texts sought name answer.key is numbers)
+    (one_key c.args.self.now.texts sought name answer.key is numbers)
     (c.answered_method.ensures member (c.requires.answer sought is) c.in-Some.is))
     c.in_ok-insert.ensures

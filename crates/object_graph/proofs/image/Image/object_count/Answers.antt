@@ -1,5 +1,5 @@
 use Rattle.std.proofs.Common.{ap, ◌∙◌, sym}
-use Rattle.evaluator.specs.Regions.{region_of}
+use Rattle.region_shape.specs.Regions.{region_of}
 use Rattle.object_graph.specs.Images.{object_count}
 use Rattle.object_graph.proofs.image.Image.object_count.Goals as goal
 

@@ -6,7 +6,7 @@ use Rattle.thread_runner.proofs.book.Book.run_on.Goals as goal
 
 pub run_on-requires : goal.run_on-requires
 run_on-requires g c =
-    subst (λ (b : Pages). CanRunOn g.O.Origin.program c.args.program.now b.past c.args.thread c.args.steps
+    subst (λ (b : Pages). CanRunOn g.O.Origin.program c.args.program.now b.past c.args.thread c.args.slice.steps
     c.args.table.now) (sym c.self.view_is) c.requires
 
 pub invariant_of-result : goal.invariant_of-result

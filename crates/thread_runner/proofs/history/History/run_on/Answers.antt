@@ -10,21 +10,23 @@ use Rattle.thread_runner.proofs.history.History.run_on.Goals as goal
 
 pub run_in-requires-clause-fits : goal.run_in-requires-clause-fits
 run_in-requires-clause-fits g c =
-    let room = subst (λ (x : Past). steps_of x + c.args.steps < x.limit + 1024) (sym c.self.view_is) c.requires.room in
+    let room = subst (λ (x : Past). steps_of x + c.args.slice.steps < x.limit + 1024)
+    (sym c.self.view_is) c.requires.room in
     omega (arith, room, c.self.invariant.1.limit)
 
 pub invariant_of-result : goal.invariant_of-result
 invariant_of-result g c =
     let P = g.O.Origin.program in
     let h = past_of c.self.inside.world c.self.inside.journal.items c.self.inside.limit in
-    let room = subst (λ (x : Past). steps_of x + c.args.steps < x.limit + 1024) (sym c.self.view_is) c.requires.room in
+    let room = subst (λ (x : Past). steps_of x + c.args.slice.steps < x.limit + 1024)
+    (sym c.self.view_is) c.requires.room in
     let v = c.run_in.new.world in
     let made = c.in-Ok.made in
     let ahead =
-    subst (λ (Q : Tables). RunsAhead (program_of Q) c.args.thread c.args.steps c.args.bytes made h.world v)
+    subst (λ (Q : Tables). RunsAhead (program_of Q) c.args.thread c.args.slice.steps c.args.slice.bytes made h.world v)
     c.requires.program c.in-Ok.ensures.ahead in
-    kept_on P g.O.Origin.start h v c.run_in.new.journal.items c.self.inside.steps c.args.thread c.args.steps
-    c.args.bytes made c.self.invariant ahead c.in-Ok.ensures.schedule c.in-Ok.ensures.runs room
+    kept_on P g.O.Origin.start h v c.run_in.new.journal.items c.self.inside.steps c.args.thread c.args.slice.steps
+    c.args.slice.bytes made c.self.invariant ahead c.in-Ok.ensures.schedule c.in-Ok.ensures.runs room
 
 pub returns-in-Ok-clause-on : goal.returns-in-Ok-clause-on
 returns-in-Ok-clause-on g c =
@@ -32,5 +34,6 @@ returns-in-Ok-clause-on g c =
     let h = past_of c.self.inside.world c.self.inside.journal.items c.self.inside.limit in
     let new = past_of c.run_in.new.world c.run_in.new.journal.items c.self.inside.limit in
     subst (λ (x : Past). RunsOn c.args.thread x new c.in-Ok.made) c.self.view_is
-    (runs_on P h c.run_in.new.world c.run_in.new.journal.items c.args.thread c.args.steps c.args.bytes c.in-Ok.made
+    (runs_on P h c.run_in.new.world c.run_in.new.journal.items c.args.thread c.args.slice.steps c.args.slice.bytes
+    c.in-Ok.made
     c.in-Ok.ensures.ahead c.in-Ok.ensures.schedule c.run_in.ensures.threads)

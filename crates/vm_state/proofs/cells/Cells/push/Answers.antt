@@ -30,7 +30,8 @@ invariant_of-self c =
     let s = c.self.inside in
     let same : places (operand_in c.holding.result) ≡ c.places-places.result =
     ap places c.holding.ensures.operand ∙ sym c.places-places.ensures in
-    let room : places (operand_in c.holding.result) ≤ c.self.inside.free = omega (arith, same, c.if-self-places.false) in
+    let room : places (operand_in c.holding.result) ≤ c.self.inside.free = omega
+    (arith, same, c.if-self-places.false) in
     rw same at (fits_pushed s.locals s.depth s.free s.variables.items c.holding.result room c.self.invariant)
 
 pub returns-clause-fits : goal.returns-clause-fits
@@ -39,7 +40,8 @@ returns-clause-fits c =
     let cell = c.holding.result in
     let same : places (operand_in c.holding.result) ≡ c.places-places.result =
     ap places c.holding.ensures.operand ∙ sym c.places-places.ensures in
-    let room : places (operand_in c.holding.result) ≤ c.self.inside.free = omega (arith, same, c.if-self-places.false) in
+    let room : places (operand_in c.holding.result) ≤ c.self.inside.free = omega
+    (arith, same, c.if-self-places.false) in
     ap (λ v. pushed v c.args.self.now.operands) (sym c.holding.ensures.operand)
     ∙ ap (λ (held : Contents). pushed (operand_in cell) held.operands) (sym c.self.view_is)
     ∙ rw same at (pushed_is s.locals s.depth s.free s.variables.items cell room c.self.invariant)

@@ -1,6 +1,6 @@
 use Rattle.std.proofs.Common.{ℕ, subst}
 use Rattle.machine.specs.Linked.{program_of}
-use Rattle.evaluator.specs.Regions.{environment_of}
+use Rattle.region_shape.specs.Regions.{environment_of}
 use Rattle.evaluator.specs.Outcomes.{IsOutcome}
 use Rattle.wave_scheduler.proofs.results.Done.outcome_of.Goals as goal
 

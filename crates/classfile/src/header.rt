@@ -1,0 +1,181 @@
+//! A class's flags, its name, and its parents.
+
+ghost use Rattle.std.specs.Prelude.{◌≡◌};
+ghost use Rattle.classfile.specs.Gives.{Gives};
+ghost use Rattle.classfile.specs.reading.Repeat.{repeat_at};
+ghost use Rattle.classfile.specs.reading.Class.{this_class_at, super_class_at, class_indices_at};
+ghost use Rattle.classfile.specs.reading.Class.{interface_at, interfaces_at, header_at};
+
+use crate::constant::Constant;
+use crate::fault::ClassFault;
+use crate::lookup::{is_class, is_class_or_none, is_plain_class};
+use crate::numbers::{room_for, u16_at};
+use std::alloc::Global;
+use std::marker::Model;
+
+/// Indices of Classes, in the file's order.
+#[derive(Drop)]
+pub(crate) struct Interfaces {
+    items: Vec<u16>,
+}
+
+impl Model for Interfaces {
+    ghost use Rattle.std.specs.Prelude.{List, ℕ};
+
+    ghost Value = { List ℕ };
+
+    ghost view = { λ i. i.items.items };
+}
+
+impl Interfaces {
+    pub(crate) fn as_slice(&self) -> &[u16]
+        ensures { result.now ≡ self.now }
+    {
+        &self.items
+    }
+}
+
+/// The header of a class: what stands between the constant pool and the members.
+#[derive(Drop)]
+pub(crate) struct Header {
+    pub(crate) access_flags: u16,
+    pub(crate) this_class: u16,
+    pub(crate) super_class: u16,
+    pub(crate) interfaces: Interfaces,
+}
+
+/// The index of a Class that is no array.
+#[tactic(auto, unfolding(crate::specs::reading::Class::this_class_at))]
+fn this_class_at<'a>(
+    pool: &[Constant],
+    total: usize,
+    bytes: &'a [u8],
+) -> Result<(u16, &'a [u8]), ClassFault>
+    ensures { Gives (λ x. (x.0, x.1.now)) result (this_class_at pool.now total bytes.now) }
+{
+    let (index, rest) = u16_at(total, bytes)?;
+    if !is_plain_class(pool, index) {
+        return Err(ClassFault::Index {
+            at: total.saturating_sub(bytes.len()),
+        });
+    }
+    Ok((index, rest))
+}
+
+/// 0, or the index of a Class.
+#[tactic(auto, unfolding(crate::specs::reading::Class::super_class_at))]
+fn super_class_at<'a>(
+    pool: &[Constant],
+    total: usize,
+    bytes: &'a [u8],
+) -> Result<(u16, &'a [u8]), ClassFault>
+    ensures { Gives (λ x. (x.0, x.1.now)) result (super_class_at pool.now total bytes.now) }
+{
+    let (index, rest) = u16_at(total, bytes)?;
+    if !is_class_or_none(pool, index) {
+        return Err(ClassFault::Index {
+            at: total.saturating_sub(bytes.len()),
+        });
+    }
+    Ok((index, rest))
+}
+
+/// The indices of the class itself and of its superclass.
+#[derive(Clone, Copy)]
+struct ClassIndices {
+    this_class: u16,
+    super_class: u16,
+}
+
+/// The class itself and its superclass.
+#[tactic(auto, unfolding(crate::specs::reading::Class::class_indices_at))]
+fn class_indices_at<'a>(
+    pool: &[Constant],
+    total: usize,
+    bytes: &'a [u8],
+) -> Result<(ClassIndices, &'a [u8]), ClassFault>
+    ensures { Gives (λ x. ((x.0.this_class, x.0.super_class), x.1.now)) result
+        (class_indices_at pool.now total bytes.now) }
+{
+    let (this_class, rest) = this_class_at(pool, total, bytes)?;
+    let (super_class, rest) = super_class_at(pool, total, rest)?;
+    let indices = ClassIndices {
+        this_class,
+        super_class,
+    };
+    Ok((indices, rest))
+}
+
+/// The index of a Class.
+#[tactic(auto, unfolding(crate::specs::reading::Class::interface_at))]
+fn interface_at<'a>(
+    pool: &[Constant],
+    total: usize,
+    bytes: &'a [u8],
+) -> Result<(u16, &'a [u8]), ClassFault>
+    ensures { Gives (λ x. (x.0, x.1.now)) result (interface_at pool.now total bytes.now) }
+{
+    let (index, rest) = u16_at(total, bytes)?;
+    if !is_class(pool, index) {
+        return Err(ClassFault::Index {
+            at: total.saturating_sub(bytes.len()),
+        });
+    }
+    Ok((index, rest))
+}
+
+#[tactic(auto, unfolding(crate::specs::reading::Class::interfaces_at))]
+fn interfaces_at<'a>(
+    alloc: Global,
+    pool: &[Constant],
+    total: usize,
+    bytes: &'a [u8],
+) -> Result<(Interfaces, &'a [u8]), ClassFault>
+    ensures { Gives (λ x. (x.0, x.1.now)) result (interfaces_at pool.now total bytes.now) }
+{
+    let (count, rest) = u16_at(total, bytes)?;
+    let mut items = Vec::with_capacity(alloc, room_for(count, rest))?;
+    let rest = push_interfaces_at(pool, total, count, &mut items, rest)?;
+    Ok((Interfaces { items }, rest))
+}
+
+/// Reads `count` indices after those that stand before.
+fn push_interfaces_at<'a>(
+    pool: &[Constant],
+    total: usize,
+    count: u16,
+    items: &mut Vec<u16>,
+    bytes: &'a [u8],
+) -> Result<&'a [u8], ClassFault>
+    ensures { Gives (λ rest. (items.new.items, rest.now)) result
+        (repeat_at (λ earlier. interface_at pool.now total) count items.old.items bytes.now) }
+{
+    let mut rest = bytes;
+    for _index in 0..count {
+        let (interface, after) = interface_at(pool, total, rest)?;
+        items.push(interface)?;
+        rest = after;
+    }
+    Ok(rest)
+}
+
+#[tactic(auto, unfolding(crate::specs::reading::Class::header_at, crate::specs::reading::Class::class_indices_at))]
+pub(crate) fn header_at<'a>(
+    alloc: Global,
+    pool: &[Constant],
+    total: usize,
+    bytes: &'a [u8],
+) -> Result<(Header, &'a [u8]), ClassFault>
+    ensures { Gives (λ x. (x.0, x.1.now)) result (header_at pool.now total bytes.now) }
+{
+    let (access_flags, rest) = u16_at(total, bytes)?;
+    let (indices, rest) = class_indices_at(pool, total, rest)?;
+    let (interfaces, rest) = interfaces_at(alloc, pool, total, rest)?;
+    let header = Header {
+        access_flags,
+        this_class: indices.this_class,
+        super_class: indices.super_class,
+        interfaces,
+    };
+    Ok((header, rest))
+}

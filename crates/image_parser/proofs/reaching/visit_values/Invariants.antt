@@ -1,7 +1,0 @@
-use Rattle.std.proofs.Common.{take}
-use Rattle.place_set.specs.steps.Adds.{Adds}
-use Rattle.image_parser.specs.reading.Reaching.{HoldPlace}
-use Rattle.image_parser.proofs.reaching.visit_values.Given as goal
-
-abbrev pub invariant-loop-value : goal.invariant-loop-value
-invariant-loop-value l = Adds l.fn.found (HoldPlace l.regions (take l.value-index l.values)) l.found

@@ -1,0 +1,12 @@
+use Rattle.std.proofs.Common.{rules}
+use Rattle.image_parser.specs.reading.Results.{number_at}
+use Rattle.std.specs.Int.{w32}
+use Rattle.image_parser.specs.reading.Values.{int_of_bits}
+use Rattle.image_parser.proofs.ValueReadsLemmas.{made_held}
+use Rattle.image_parser.proofs.values.bare_int_at.Goals as goal
+
+pub returns : goal.returns
+returns c P =
+    made_held P int_of_bits c.in_ok-bits.bits _ c.in_ok-bits.rest.now
+    (number_at w32 c.args.bytes.now) c.in_ok-bits.ensures
+    (search rules)
