@@ -8,4 +8,4 @@ mod reaching;
 mod starts;
 
 pub use lines::audit_text;
-pub use places::{Place, audit};
+pub use places::{EndPlace, audit};

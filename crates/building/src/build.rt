@@ -18,7 +18,7 @@ use initializer_analysis::verdict::Verdicts;
 use object_graph::{Image, gather};
 use options::OptionFault;
 use program::{LinkFault, Program};
-use region_shape::{classes_are_from_files, program_is_linked};
+use region_shape::{show_from_files, show_linked};
 use std::alloc::{AllocError, Global};
 use std::sync::Wait;
 use std::thread::Threads;
@@ -111,8 +111,8 @@ fn image_by(
     ensures fault { IfErr result (λ fault. (fault ≡ Memory) ⊎ IsOption (OptionsFail program
         (text_of options.now.run_time) (text_of options.now.build_time) options.now.budget) fault) }
 {
-    program_is_linked(&program);
-    classes_are_from_files(&program);
+    show_linked(&program);
+    show_from_files(&program);
     match settled {
         Ok(settled) => image_of(alloc, program, settled),
         Err(fault) => Err(fault),

@@ -1,6 +1,6 @@
 pub mod WithinLemmas
-pub mod TurnsLemmas
-pub mod DeskLemmas
+pub mod StepsLemmas
+pub mod CourseLemmas
 pub mod StoreLemmas
 pub mod MakesLastLemmas
 pub mod SettlesLemmas

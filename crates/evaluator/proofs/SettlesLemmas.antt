@@ -9,7 +9,7 @@ use Rattle.semantics.proofs.BigStepsLemmas.{big_from_small}
 use Rattle.semantics.proofs.SmallStopsLemmas.{big_from_small_stop}
 use Rattle.evaluator.specs.declared.outcome.Halt.{Halt}
 use Rattle.evaluator.specs.Outcomes.{stop_of}
-use Rattle.evaluator.specs.steps.Turns.{IsEnd}
+use Rattle.evaluator.specs.steps.Steps.{IsEnd}
 
 module _ (P : Program) (env : Environment) (c budget : ℕ) (own last : Region) (begins : own ≡ constant_region P c) where
   pub settled : IsEnd P env c (body (P.initializer c)) own budget None last →

@@ -11,8 +11,8 @@ use Rattle.evaluator.specs.declared.outcome.Halt.{Halt}
 use Rattle.evaluator.specs.declared.outcome.Halt.TheVariants.{Refused, Barred}
 use Rattle.evaluator.specs.declared.outcome.Outcome.{Outcome}
 use Rattle.evaluator.specs.declared.outcome.Outcome.TheVariants as outcomes
-use Rattle.evaluator.specs.declared.outcome.Ending.{Ending}
-use Rattle.evaluator.specs.declared.outcome.Ending.TheVariants as endings
+use Rattle.evaluator.specs.declared.outcome.Evaluation.{Evaluation}
+use Rattle.evaluator.specs.declared.outcome.Evaluation.TheVariants as evaluations
 use Rattle.region_shape.specs.Regions.{region_of}
 
 abbrev pub reason_of : Refusal → Reason
@@ -26,9 +26,9 @@ stop_of (Refused why) = RefusedFor (reason_of why)
 stop_of Barred = IsBarred
 
 -- Within this budget a class's initializer leaves the region, or is stopped so.
-abbrev pub IsEnding : Program → Environment → ℕ → ℕ → Ending → Type 0
-IsEnding P env c budget (endings.Settled region) = (n : ℕ) × Settles P env c n (region_of region) × (n ≤ budget)
-IsEnding P env c budget (endings.Stopped halt) = StoppedBy P env c budget (stop_of halt)
+abbrev pub IsEvaluation : Program → Environment → ℕ → ℕ → Evaluation → Type 0
+IsEvaluation P env c budget (evaluations.Settled region) = (n : ℕ) × Settles P env c n (region_of region) × (n ≤ budget)
+IsEvaluation P env c budget (evaluations.Stopped halt) = StoppedBy P env c budget (stop_of halt)
 
 -- It is not stopped by what bars its class by the code alone.
 abbrev pub IsUnbarred : Program → Environment → ℕ → ℕ → Type 0

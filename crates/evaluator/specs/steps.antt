@@ -1,5 +1,5 @@
 pub mod Within
 pub mod Builds
 pub mod BuildTables
-pub mod Turns
-pub mod Desks
+pub mod Steps
+pub mod Courses

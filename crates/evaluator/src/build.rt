@@ -22,7 +22,7 @@ use vm_state::value::{Maker, Name, Value};
 
 /// A class's initializer that runs alone.
 #[derive(Drop)]
-pub struct Build<'a> {
+pub struct BuildStore<'a> {
     pub program: &'a Program,
     pub regions: &'a Regions,
     pub class: u32,
@@ -117,7 +117,7 @@ fn counted(made: u64, elements: u64, most: u64) -> Option<u64>
     }
 }
 
-impl<'a> Build<'a> {
+impl<'a> BuildStore<'a> {
     /// One more object of its own, with which `made` elements were made.
     fn add(&mut self, class: ClassId, slots: Slots, made: u64) -> Result<Name, Stop>
         ensures name { IfOk result (λ name. name
@@ -141,7 +141,7 @@ impl<'a> Build<'a> {
     }
 }
 
-impl<'a> Store for Build<'a> {
+impl<'a> Store for BuildStore<'a> {
     ghost Answer = { Conduct };
 
     ghost State = { Building };

@@ -2,8 +2,8 @@
 #![tactic(auto)]
 
 mod build;
-mod desk;
+mod course_runner;
 pub mod laws;
 pub mod outcome;
 pub mod settling;
-mod turn;
+mod step;

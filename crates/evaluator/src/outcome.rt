@@ -26,7 +26,7 @@ pub enum Halt {
 
 /// How an initializer ended.
 #[derive(Drop)]
-pub enum Ending {
+pub enum Evaluation {
     /// It left this region.
     Settled(Region),
     /// It was stopped.

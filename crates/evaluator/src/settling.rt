@@ -6,18 +6,18 @@ ghost use Rattle.semantics.specs.Alone.{body};
 ghost use Rattle.semantics.specs.Settling.{constant_region};
 ghost use Rattle.machine.specs.Linked.{program_of};
 ghost use Rattle.region_shape.specs.Regions.{region_of, environment_of};
-ghost use Rattle.evaluator.specs.Outcomes.{IsEnding, IsOutcome, IsUnbarred};
+ghost use Rattle.evaluator.specs.Outcomes.{IsEvaluation, IsOutcome, IsUnbarred};
 ghost use Rattle.evaluator.specs.Settleable.{IsSettleable, LeavesWhole};
-ghost use Rattle.evaluator.specs.steps.Turns.{IsEnd};
+ghost use Rattle.evaluator.specs.steps.Steps.{IsEnd};
 
-use crate::build::Build;
-use crate::desk::Desk;
-use crate::outcome::{Ending, Halt, Outcome, Refusal};
-use crate::turn::{Initializer, Turn, take_turn};
+use crate::build::BuildStore;
+use crate::course_runner::CourseRunner;
+use crate::outcome::{Evaluation, Halt, Outcome, Refusal};
+use crate::step::{Initializer, Progress, take_step};
 use machine::entering::initializer_frame;
 use program::Program;
 use region_shape::regions::{Region, Regions};
-use region_shape::{class_is_from_file, program_is_linked};
+use region_shape::{show_from_file, show_linked};
 use std::alloc::{AllocError, Global};
 use vm_state::classes::Fields;
 use vm_state::frame::{FrameList, Segment};
@@ -45,23 +45,23 @@ fn constant_region(alloc: Global, program: &Program, class: u32) -> Result<Regio
 fn run_frames<'a>(
     alloc: Global,
     given: Initializer<'a>,
-    store: &mut Build<'a>,
+    store: &mut BuildStore<'a>,
     segment: &mut Segment,
     budget: u64,
 ) -> Result<Option<Halt>, AllocError>
     ensures { IfOk result (λ halt. IsEnd (program_of given.entry.program.now) (environment_of given.entry.regions.now)
         given.entry.class (frames_of segment.old) (region_of store.old.own) budget halt (region_of store.new.own)) }
 {
-    let mut desk = Desk::new(alloc);
+    let mut courses = CourseRunner::new(alloc);
     let mut left = budget;
     while left > 0 {
         let done = budget - left;
-        let ahead = desk.run(alloc, given, &mut store.own, segment, done, left - 1)?;
+        let ahead = courses.run(alloc, given, &mut store.own, segment, done, left - 1)?;
         let most = left - 1 - ahead;
-        match take_turn(alloc, given, store, segment, most)? {
-            Turn::On => left = most.saturating_sub(store.made),
-            Turn::Over => return Ok(None),
-            Turn::Stopped(halt) => return Ok(Some(halt)),
+        match take_step(alloc, given, store, segment, most)? {
+            Progress::On => left = most.saturating_sub(store.made),
+            Progress::Over => return Ok(None),
+            Progress::Stopped(halt) => return Ok(Some(halt)),
         }
     }
     Ok(Some(Halt::Refused(Refusal::OverBudget)))
@@ -74,7 +74,7 @@ fn run_frames<'a>(
 fn run_initializer<'a>(
     alloc: Global,
     given: Initializer<'a>,
-    store: &mut Build<'a>,
+    store: &mut BuildStore<'a>,
     budget: u64,
 ) -> Result<Option<Halt>, AllocError>
     ensures { IfOk result (λ halt. IsEnd (program_of given.entry.program.now) (environment_of given.entry.regions.now)
@@ -104,9 +104,9 @@ pub fn evaluate(
     regions: &Regions,
     class: u32,
     budget: u64,
-) -> Result<Ending, AllocError>
-    ensures { IfOk result (λ ending. IsEnding (program_of program.now) (environment_of regions.now) class budget
-        ending) }
+) -> Result<Evaluation, AllocError>
+    ensures { IfOk result (λ evaluation. IsEvaluation (program_of program.now) (environment_of regions.now) class budget
+        evaluation) }
 {
     let own = constant_region(alloc, program, class)?;
     let given = Initializer {
@@ -114,7 +114,7 @@ pub fn evaluate(
         regions,
         class,
     };
-    let mut store = Build {
+    let mut store = BuildStore {
         program,
         regions,
         class,
@@ -123,8 +123,8 @@ pub fn evaluate(
         made: 0,
     };
     match run_initializer(alloc, given, &mut store, budget) {
-        Ok(None) => Ok(Ending::Settled(store.own)),
-        Ok(Some(halt)) => Ok(Ending::Stopped(halt)),
+        Ok(None) => Ok(Evaluation::Settled(store.own)),
+        Ok(Some(halt)) => Ok(Evaluation::Stopped(halt)),
         Err(error) => Err(error),
     }
 }
@@ -148,12 +148,12 @@ pub fn settle(
     ensures whole { IfOk result (λ outcome. IsSettleable program.now (environment_of regions.now) class
         → LeavesWhole program.now (environment_of regions.now) class budget outcome) }
 {
-    program_is_linked(program);
-    class_is_from_file(program, class);
+    show_linked(program);
+    show_from_file(program, class);
     match evaluate(alloc, program, regions, class, budget) {
-        Ok(Ending::Settled(region)) => Ok(Outcome::Settled(region)),
-        Ok(Ending::Stopped(Halt::Refused(refusal))) => Ok(Outcome::Refused(refusal)),
-        Ok(Ending::Stopped(Halt::Barred)) => unreachable!(),
+        Ok(Evaluation::Settled(region)) => Ok(Outcome::Settled(region)),
+        Ok(Evaluation::Stopped(Halt::Refused(refusal))) => Ok(Outcome::Refused(refusal)),
+        Ok(Evaluation::Stopped(Halt::Barred)) => unreachable!(),
         Err(error) => Err(error),
     }
 }

@@ -4,18 +4,19 @@ use Rattle.std.specs.Bool.{MatchBool}
 use Rattle.semantics.specs.Programs.{Program}
 use Rattle.semantics.specs.Quiet.{Environment, OverBudget, Refused, Stop}
 use Rattle.semantics.specs.Settling.{Settles, StoppedBy, StopExcludes, OneStop}
-use Rattle.evaluator.specs.declared.outcome.Ending.{Ending}
-use Rattle.evaluator.specs.declared.outcome.Ending.TheVariants as endings
-use Rattle.evaluator.specs.Outcomes.{IsEnding, stop_of}
+use Rattle.evaluator.specs.declared.outcome.Evaluation.{Evaluation}
+use Rattle.evaluator.specs.declared.outcome.Evaluation.TheVariants as evaluations
+use Rattle.evaluator.specs.Outcomes.{IsEvaluation, stop_of}
 use Rattle.region_shape.specs.Regions.{region_of}
 use Rattle.explain.specs.Reruns.{CostsMore, EndsAt, IsLeast}
 use Rattle.explain.specs.steps.Over.{IsOver}
 
 -- a class that settles within the least budget costs just that
-pub ends_at : StopExcludes → (P : Program) (env : Environment) (c greatest budget : ℕ) (ending : Ending)
-    → IsLeast P env c greatest budget → IsEnding P env c budget ending → EndsAt P env c budget ending
-ends_at excludes P env c greatest budget (endings.Stopped halt) least stopped = stopped
-ends_at excludes P env c greatest budget (endings.Settled region) least (n, settles, within) = by (just budget n within)
+pub ends_at : StopExcludes → (P : Program) (env : Environment) (c greatest budget : ℕ) (evaluation : Evaluation)
+    → IsLeast P env c greatest budget → IsEvaluation P env c budget evaluation → EndsAt P env c budget evaluation
+ends_at excludes P env c greatest budget (evaluations.Stopped halt) least stopped = stopped
+ends_at excludes P env c greatest budget (evaluations.Settled region) least (n, settles, within) =
+    by (just budget n within)
   where
     just : (budget n : ℕ) → n ≤ budget → (n ≡ budget) ⊎ ((less : ℕ) × (budget ≡ less + 1) × (n ≤ less))
     just zero n within = inl (omega (arith, within))
@@ -33,13 +34,14 @@ ends_at excludes P env c greatest budget (endings.Settled region) least (n, sett
         absurd (excludes P env c n less (region_of region) (Refused OverBudget) settles under (least.least less is))
 
 -- whether it costs more, by how it ended
-pub told_over : StopExcludes → OneStop → (P : Program) (env : Environment) (c budget : ℕ) (ending : Ending)
-    (over : Bool) → (over ≡ true → IsOver ending) → (over ≡ false → ¬ IsOver ending) → IsEnding P env c budget ending
-    → MatchBool over (CostsMore P env c budget) (¬ CostsMore P env c budget)
-told_over excludes one P env c budget (endings.Settled region) true so not_so (n, settles, within) = absurd (so refl)
-told_over excludes one P env c budget (endings.Settled region) false so not_so (n, settles, within) =
+pub told_over : StopExcludes → OneStop → (P : Program) (env : Environment) (c budget : ℕ) (evaluation : Evaluation)
+    (over : Bool) → (over ≡ true → IsOver evaluation) → (over ≡ false → ¬ IsOver evaluation)
+    → IsEvaluation P env c budget evaluation → MatchBool over (CostsMore P env c budget) (¬ CostsMore P env c budget)
+told_over excludes one P env c budget (evaluations.Settled region) true so not_so (n, settles, within) =
+    absurd (so refl)
+told_over excludes one P env c budget (evaluations.Settled region) false so not_so (n, settles, within) =
     λ more. excludes P env c n budget (region_of region) (Refused OverBudget) settles within more
-told_over excludes one P env c budget (endings.Stopped halt) true so not_so stopped =
+told_over excludes one P env c budget (evaluations.Stopped halt) true so not_so stopped =
     subst (λ (s : Stop). StoppedBy P env c budget s) (so refl) stopped
-told_over excludes one P env c budget (endings.Stopped halt) false so not_so stopped =
+told_over excludes one P env c budget (evaluations.Stopped halt) false so not_so stopped =
     λ more. not_so refl (one P env c budget (stop_of halt) (Refused OverBudget) stopped more)

@@ -3,8 +3,8 @@ use Rattle.std.specs.Prelude.{◌≡◌, ℕ, ◌+◌, ◌<◌, ◌≤◌, ◌==
 use Rattle.semantics.specs.Programs.{Program}
 use Rattle.semantics.specs.Quiet.{Environment, OverBudget, Refused}
 use Rattle.semantics.specs.Settling.{Settles, StoppedBy}
-use Rattle.evaluator.specs.declared.outcome.Ending.{Ending}
-use Rattle.evaluator.specs.declared.outcome.Ending.TheVariants as endings
+use Rattle.evaluator.specs.declared.outcome.Evaluation.{Evaluation}
+use Rattle.evaluator.specs.declared.outcome.Evaluation.TheVariants as evaluations
 use Rattle.evaluator.specs.Outcomes.{stop_of}
 use Rattle.region_shape.specs.Regions.{environment_of, region_of}
 use Rattle.machine.specs.Linked.{program_of}
@@ -22,13 +22,13 @@ pub record IsLeast (P : Program) (env : Environment) (c greatest budget : ℕ) :
   pub least : (less : ℕ) → budget ≡ less + 1 → CostsMore P env c less
 
 -- what it leaves at just this cost, or what stops it within it
-abbrev pub EndsAt : Program → Environment → ℕ → ℕ → Ending → Type 0
-EndsAt P env c budget (endings.Settled region) = Settles P env c budget (region_of region)
-EndsAt P env c budget (endings.Stopped halt) = StoppedBy P env c budget (stop_of halt)
+abbrev pub EndsAt : Program → Environment → ℕ → ℕ → Evaluation → Type 0
+EndsAt P env c budget (evaluations.Settled region) = Settles P env c budget (region_of region)
+EndsAt P env c budget (evaluations.Stopped halt) = StoppedBy P env c budget (stop_of halt)
 
 pub record IsRerun (P : Program) (env : Environment) (c greatest : ℕ) (again : Rerun) : Type 0 where
   pub least : IsLeast P env c greatest again.budget
-  pub ending : EndsAt P env c again.budget again.ending
+  pub evaluation : EndsAt P env c again.budget again.evaluation
 
 -- the regions of all classes but one
 abbrev pub without : Environment → ℕ → Environment

@@ -17,7 +17,7 @@ use use_graph::UseGraph;
 
 /// What is known of all classes of a program.
 #[derive(Drop)]
-pub struct Known {
+pub struct Knowledge {
     uses: UseGraph,
     /// By class: another that it uses, by one use or several, and that uses it so.
     cycles: Vec<Option<u32>>,
@@ -52,7 +52,7 @@ fn other_at(others: &[Option<u32>], class: u32) -> Option<u32>
     }
 }
 
-impl Known {
+impl Knowledge {
     /// What is known of all classes, which have these verdicts in the end.
     ///
     /// # Errors
@@ -61,7 +61,7 @@ impl Known {
         alloc: Global,
         program: &Program,
         verdicts: &[Verdict],
-    ) -> Result<Known, AllocError>
+    ) -> Result<Knowledge, AllocError>
         requires { length verdicts.now ≡ length program.now.classes }
         ensures { IfOk result (IsKnown program.now verdicts.now) }
     {
@@ -70,7 +70,7 @@ impl Known {
         let first = first_uses(alloc, program, &uses, verdicts)?;
         let evidences = evidences_of(alloc, program, &uses)?;
         let search = Search::new(alloc, uses.calls.len())?;
-        Ok(Known {
+        Ok(Knowledge {
             uses,
             cycles,
             first,

@@ -9,7 +9,7 @@ ghost use Rattle.region_shape.specs.Regions.{environment_of};
 ghost use Rattle.explain.specs.Reruns.{CostsMore, IsLeast, IsRerunIn, without};
 ghost use Rattle.explain.specs.steps.Over.{IsOver};
 
-use evaluator::outcome::{Ending, Halt, Refusal};
+use evaluator::outcome::{Evaluation, Halt, Refusal};
 use evaluator::settling::evaluate;
 use object_graph::Image;
 use program::Program;
@@ -21,7 +21,7 @@ use std::alloc::{AllocError, Global};
 pub struct Rerun {
     /// That budget: what it costs, where it settles.
     pub budget: u64,
-    pub ending: Ending,
+    pub evaluation: Evaluation,
 }
 
 /// Adds a copy of the region that a class has in an image.
@@ -93,13 +93,13 @@ fn is_cost(halt: Halt) -> bool
 }
 
 /// Whether an initializer was stopped for its cost.
-fn is_over(ending: &Ending) -> bool
-    ensures yes { result ≡ true → IsOver ending.now }
-    ensures no { result ≡ false → ¬ IsOver ending.now }
+fn is_over(evaluation: &Evaluation) -> bool
+    ensures yes { result ≡ true → IsOver evaluation.now }
+    ensures no { result ≡ false → ¬ IsOver evaluation.now }
 {
-    match ending {
-        Ending::Settled(_) => false,
-        Ending::Stopped(halt) => is_cost(*halt),
+    match evaluation {
+        Evaluation::Settled(_) => false,
+        Evaluation::Stopped(halt) => is_cost(*halt),
     }
 }
 
@@ -115,8 +115,8 @@ fn costs_more(
         (CostsMore (program_of program.now) (environment_of regions.now) class budget)
         (¬ CostsMore (program_of program.now) (environment_of regions.now) class budget)) }
 {
-    let ending = evaluate(alloc, program, regions, class, budget)?;
-    let over = is_over(&ending);
+    let evaluation = evaluate(alloc, program, regions, class, budget)?;
+    let over = is_over(&evaluation);
     Ok(over)
 }
 
@@ -160,6 +160,6 @@ pub fn run_again(
     let program = image.program();
     let regions = other_regions(alloc, image, class)?;
     let budget = least_budget(alloc, program, &regions, class, greatest)?;
-    let ending = evaluate(alloc, program, &regions, class, budget)?;
-    Ok(Rerun { budget, ending })
+    let evaluation = evaluate(alloc, program, &regions, class, budget)?;
+    Ok(Rerun { budget, evaluation })
 }

@@ -5,7 +5,7 @@ ghost use Rattle.std.specs.Prelude.{◌<◌};
 use std::alloc::{AllocError, Global};
 
 /// How many slots there are.
-const SLOTS: usize = 256;
+const SLOTS: usize = 1_024;
 
 /// By slot: the number of the text that was noted last. Most texts of class files stand in many of them, so most often
 /// it is the number that is sought.
@@ -44,17 +44,22 @@ impl Guesses {
     }
 }
 
-/// The slot of a text, by its length and its ends.
+/// The slot of a text, by its length, its first byte and its last two: many texts of one class differ in these alone.
 fn slot_of(text: &[u8]) -> usize
-    ensures { result < 256 }
+    ensures { result < 1024 }
 {
     let first = text.first().copied().unwrap_or(0);
     let last = text.last().copied().unwrap_or(0);
+    let before = byte_before_last(text);
     let length = (text.len() % 256) as u8;
-    usize::from(
-        first
-            .wrapping_mul(61)
-            .wrapping_add(last.wrapping_mul(17))
-            .wrapping_add(length.wrapping_mul(31)),
-    )
+    let ends = u16::from(first) * 61 + u16::from(before) * 113 + u16::from(last) * 17;
+    usize::from((ends + u16::from(length) * 31) % 1_024)
+}
+
+/// The last byte but one, or 0.
+fn byte_before_last(text: &[u8]) -> u8 {
+    match text {
+        [.., before, _] => *before,
+        _ => 0,
+    }
 }

@@ -3,12 +3,12 @@
 ghost use Rattle.image_writer.specs.steps.Sizes.{HasFiles};
 
 use program::Program;
-use region_shape::classes_are_from_files;
+use region_shape::show_from_files;
 
 /// It has the tables of class files. It looks at each class once.
-pub(crate) fn has_files(program: &Program)
+pub(crate) fn show_files(program: &Program)
     ensures { HasFiles program.now }
 {
-    classes_are_from_files(program);
+    show_from_files(program);
     let _tables = program.classes();
 }

@@ -170,7 +170,8 @@ asked_turn P first w new most t done Ended before now after so room asking =
 abbrev pub after_turn : RoundPlace → ℕ → RoundPlace
 after_turn p made = record { left = p.left; asked = p.asked + 1; done = p.done + made }
 
-pub asks_turn : (P : Program) (turn : Turn) (made : ℕ) (from p : RoundPlace) (old w new : World) (before now after : List ℕ)
+pub asks_turn : (P : Program) (turn : Turn) (made : ℕ) (from p : RoundPlace) (old w new : World)
+    (before now after : List ℕ)
     → AsksFurther P from p old w before now → made ≡ steps_of turn → p.done < p.left →
     IsAsking P w p.asked turn new now after → AsksFurther P from (after_turn p made) old new before after
 asks_turn P turn made from p old w new before now after asks is room asking begin rounds so =

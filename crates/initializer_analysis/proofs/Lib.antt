@@ -1,5 +1,5 @@
 pub mod LeastLemmas
-pub mod SettledLemmas
+pub mod JoinedLemmas
 pub mod RaisedLemmas
 pub mod VertexTablesLemmas
 pub mod VerdictsLemmas

@@ -62,6 +62,7 @@ fn maker_of(frames: &Frames) -> Maker
 ///
 /// # Errors
 /// `Fault`, and nothing changed, where that has no room.
+#[inline(always)]
 pub fn receive(frame: &mut Frame, value: Option<Value>) -> Result<(), Fault>
     ensures ok { OnOk result (received value frame.old ≡ Some frame.new) }
     ensures err { OnErr result (received value frame.old ≡ None) }

@@ -31,6 +31,7 @@ const FAULT: Result<Conclusion, Stop> = Ok(Conclusion::Halts(FaultKind::Fault));
 ///
 /// # Errors
 /// `Fault` where the operands are of other kinds, or too few.
+#[inline(always)]
 pub fn receiver_under(cells: &Cells, kinds: &[FieldKind]) -> Result<Value, Fault>
     ensures ok { IfOk result (λ v. receiver_under kinds.now cells.now.operands ≡ Some v) }
     ensures err { OnErr result (receiver_under kinds.now cells.now.operands ≡ None) }
@@ -113,6 +114,7 @@ pub fn is_out(value: Value) -> bool
 }
 
 /// Whether a call on `System.out` names another class than its own.
+#[inline(always)]
 pub fn names_another(call: InstanceCall, receiver: Value) -> bool
     ensures { result ≡ (is_out receiver && not call.names_stream) }
 {

@@ -5,7 +5,7 @@ ghost use Rattle.wave_scheduler.specs.Outcomes.{AreJudged};
 
 use crate::page::{Page, TIMES, wrong_data};
 use crate::programs::program_of;
-use evaluator::outcome::Ending;
+use evaluator::outcome::Evaluation;
 use evaluator::settling::evaluate;
 use initializer_analysis::forced::Forced;
 use initializer_analysis::judge;
@@ -85,7 +85,7 @@ fn uses_in(alloc: Global, program: &Program) -> Result<usize, AllocError> {
 fn settled_over(alloc: Global, program: &Program, regions: &Regions) -> Result<usize, AllocError> {
     let mut count = 0usize;
     for class in 0..program.given_count() {
-        if let Ending::Settled(_) = evaluate(alloc, program, regions, class, BUDGET)? {
+        if let Evaluation::Settled(_) = evaluate(alloc, program, regions, class, BUDGET)? {
             count = count.saturating_add(1);
         }
     }

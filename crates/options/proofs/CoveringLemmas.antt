@@ -85,7 +85,8 @@ known_by_run names pattern run is some =
     let at = slice_get_there names run.first (omega (arith, some, is.within)) in
     (run.first, (at.0, at.1, (is.places run.first at.0 at.1).0 (omega arith, some)))
 
-pub unknown_by_run : (names : List DottedName) (pattern : List ℕ) (run : NameRange) → IsRunOf names (spelled pattern) run
+pub unknown_by_run : (names : List DottedName) (pattern : List ℕ) (run : NameRange)
+    → IsRunOf names (spelled pattern) run
     → run.end ≤ run.first → IsKnownIn names pattern → ⊥
 unknown_by_run names pattern run is none (i, (n, at, begins)) =
     (let one = (is.places i n at).1 begins in absurd (omega (arith, one.0, one.1, none)))

@@ -13,6 +13,10 @@ use std::alloc::{AllocError, Global};
 use std::cmp::Ordering;
 use std::marker::Model;
 
+/// So few references are resolved in the order of their entries: what stands above a class is looked up for each anew,
+/// which costs less than a place for each entry.
+const FEW: usize = 8;
+
 /// A reference to a member: the class that it names, its name and type, and where it stands, by their indices.
 #[derive(Clone, Copy)]
 struct Reference {
@@ -66,6 +70,15 @@ impl Model for MembersAhead {
 }
 
 impl MembersAhead {
+    /// Nothing resolved, and no places.
+    fn none(alloc: Global) -> Self
+        ensures { (index : ℕ) → ahead_at result index ≡ None }
+    {
+        MembersAhead {
+            held: Vec::new(alloc),
+        }
+    }
+
     /// Nothing resolved yet, with a place for each of `count` entries.
     fn new(alloc: Global, count: usize) -> Result<Self, AllocError>
         ensures { IfOk result (λ ahead. (index : ℕ) → ahead_at ahead index ≡ None) }
@@ -114,7 +127,7 @@ fn equal_before(
 
 impl Resolver<'_> {
     /// The members that the class file refers to. Those of one class are resolved one after the other, so that what
-    /// stands above it is found once; of equal references the first is resolved.
+    /// stands above it is found once; of equal references the first is resolved. None where there are few.
     pub(crate) fn members_ahead(
         &self,
         alloc: Global,
@@ -125,6 +138,9 @@ impl Resolver<'_> {
         ensures kept { members.new ≡ members.old }
     {
         let references = references_by_class(alloc, self.file)?;
+        if references.len() <= FEW {
+            return Ok(MembersAhead::none(alloc));
+        }
         let mut ahead = MembersAhead::new(alloc, self.file.constants().len())?;
         self.resolve_all(members, &references, &mut ahead)?;
         Ok(ahead)

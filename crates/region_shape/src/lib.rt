@@ -1,6 +1,6 @@
 //! Regions of classes. Those that class initialization methods leave have the shape that an image wants, and name
 //! objects alone that there are and strings alone that are the program's. Each function here is a law: its contract is
-//! what is proved, and calling it does nothing, but that `classes_are_from_files` looks at each class once.
+//! what is proved, and calling it does nothing, but that `show_from_files` looks at each class once.
 #![tactic(auto)]
 
 pub mod regions;
@@ -12,7 +12,7 @@ ghost use Rattle.region_shape.specs.Laws.{SettledHaveTexts, SettledHoldAll};
 use program::Program;
 
 /// What the laws below ask of a program.
-pub fn program_is_linked(program: &Program)
+pub fn show_linked(program: &Program)
     ensures { IsLinked program.now }
 {
     let _tables = program.classes();
@@ -20,7 +20,7 @@ pub fn program_is_linked(program: &Program)
 }
 
 /// What they ask of a class.
-pub fn class_is_from_file(program: &Program, class: u32)
+pub fn show_from_file(program: &Program, class: u32)
     ensures { IsFromFile program.now class }
 {
     if let Some(file) = program.family().file(class) {
@@ -29,12 +29,12 @@ pub fn class_is_from_file(program: &Program, class: u32)
 }
 
 /// What they ask of all classes.
-pub fn classes_are_from_files(program: &Program)
+pub fn show_from_files(program: &Program)
     ensures { (class : ℕ) → IsFromFile program.now class }
 {
     let classes = program.family().classes();
     for class in 0..classes.len() as u32 {
-        class_is_from_file(program, class);
+        show_from_file(program, class);
     }
 }
 

@@ -24,7 +24,6 @@ mod sending;
 pub mod stretch;
 mod tools;
 mod top;
-mod walk;
 mod worker;
 
 pub use answer::{Ended, RunFault};

@@ -145,6 +145,7 @@ impl Cells {
     ///
     /// # Errors
     /// `AllocError` where memory is refused.
+    #[inline(always)]
     pub fn emptied(self, locals: u16, room: u16) -> Result<Cells, AllocError>
         ensures { IfOk result (λ s. s ≡ blank locals room) }
     {
@@ -369,6 +370,7 @@ impl Cells {
 
     /// Stores values one after another, from the first local variable on.
     #[tactic(auto, unfolding(crate::specs::Arguments::passed))]
+    #[inline(always)]
     fn store_all(&mut self, values: &[Variable]) -> Result<(), Fault>
         ensures ok { OnOk result (passed self.old.locals 0 (map operand_in values.now) ≡ Some self.new.locals) }
         ensures err { OnErr result (passed self.old.locals 0 (map operand_in values.now) ≡ None) }
@@ -386,6 +388,7 @@ impl Cells {
     ///
     /// # Errors
     /// `Fault` where they do not all fit; some may be stored then.
+    #[inline(always)]
     pub fn pass(&mut self, caller: &Cells, count: usize) -> Result<(), Fault>
         ensures ok { OnOk result (passed self.old.locals 0 (taken count caller.now.operands) ≡ Some self.new.locals) }
         ensures err { OnErr result (passed self.old.locals 0 (taken count caller.now.operands) ≡ None) }
@@ -419,6 +422,7 @@ impl Cells {
     }
 
     /// The cells of the operands, the lowest first.
+    #[inline(always)]
     fn operands(&self) -> &[Variable]
         ensures { reverse (map operand_in result.now) ≡ self.now.operands.values }
     {
@@ -428,6 +432,7 @@ impl Cells {
 
     /// The cells of the so many operands on top, the lowest first: the arguments of a call in their order (JVMS 2.6.1).
     /// Where there are fewer, of all of them.
+    #[inline(always)]
     pub fn taken(&self, count: usize) -> &[Variable]
         ensures { map operand_in result.now ≡ taken count self.now.operands }
     {

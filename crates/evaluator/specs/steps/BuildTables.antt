@@ -1,10 +1,10 @@
 -- The store of a class's initializer, as definitions see it.
 use Rattle.machine.specs.Linked.{program_of}
-use Rattle.evaluator.specs.declared.build.Build.{Build}
+use Rattle.evaluator.specs.declared.build.BuildStore.{BuildStore}
 use Rattle.region_shape.specs.Regions.{region_of, environment_of}
 use Rattle.evaluator.specs.steps.Builds.{Building}
 
-abbrev pub build_of : Build → Building
+abbrev pub build_of : BuildStore → Building
 build_of s = record {
   program = program_of s.program.now;
   environment = environment_of s.regions.now;

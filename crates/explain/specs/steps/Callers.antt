@@ -41,7 +41,8 @@ pub record IsWay (P : Tables) (uses : UseGraph) (search : Search) (place : ℕ) 
   pub here : StandsAt uses.methods search.seen.items place callee
 
 -- another stands before it and may call it
-pub record IsCaller (P : Tables) (uses : UseGraph) (search : Search) (place : ℕ) (callee : DeclaredMember) (step : PathStep)
+pub record IsCaller (P : Tables) (uses : UseGraph) (search : Search) (place : ℕ) (callee : DeclaredMember)
+    (step : PathStep)
     : Type 0 where
   pub before : step.place < place
   pub here : StandsAt uses.methods search.seen.items step.place step.method

@@ -43,7 +43,8 @@ abbrev pub IsSpent : Allowance → Type 0
 IsSpent a = (a.steps ≡ 0) ⊎ (a.text ≡ 0)
 
 -- steps lead from a place to another one, were recorded, and are taken from what may be done
-pub record Spends (from to : RoundPlace) (before after : List ℕ) (old new : List Print) (had left : Allowance) : Type 0 where
+pub record Spends (from to : RoundPlace) (before after : List ℕ) (old new : List Print) (had left : Allowance)
+    : Type 0 where
   pub made : ℕ
   pub fewer_to_go : to_go_from to + made ≡ to_go_from from
   pub scheduled : length after ≡ length before + made

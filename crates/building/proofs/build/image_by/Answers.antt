@@ -10,15 +10,15 @@ pub image_of-requires-clause-whole : goal.image_of-requires-clause-whole
 image_of-requires-clause-whole c =
     whole_by c.args.program (text_of c.args.options.now.run_time)
     (text_of c.args.options.now.build_time)
-    c.args.options.now.budget c.program_is_linked.ensures c.in-Ok.settled c.classes_are_from_files.ensures
+    c.args.options.now.budget c.show_linked.ensures c.in-Ok.settled c.show_from_files.ensures
     (rw c.in-Ok.is at c.requires.settled.settled)
 
 pub image_of-requires-clause-small : goal.image_of-requires-clause-small
 image_of-requires-clause-small c =
     small_by c.args.program (text_of c.args.options.now.run_time)
     (text_of c.args.options.now.build_time)
-    c.args.options.now.budget c.program_is_linked.ensures c.in-Ok.settled c.requires.budget
-    c.classes_are_from_files.ensures
+    c.args.options.now.budget c.show_linked.ensures c.in-Ok.settled c.requires.budget
+    c.show_from_files.ensures
     (rw c.in-Ok.is at c.requires.settled.settled)
 
 pub returns-in-Ok-clause-build : goal.returns-in-Ok-clause-build
@@ -26,9 +26,9 @@ returns-in-Ok-clause-build c =
     IfOk-weaker c.image_of.result (IsGathered c.args.program c.in-Ok.settled)
     (IsBuildOfProgram c.args.program c.args.options.now)
     (λ built gathered. is_build c.args.program c.args.options.now c.in-Ok.settled
-    (rw c.in-Ok.is at c.requires.settled.settled) built c.program_is_linked.ensures
+    (rw c.in-Ok.is at c.requires.settled.settled) built c.show_linked.ensures
     (whole_by c.args.program (text_of c.args.options.now.run_time) (text_of c.args.options.now.build_time)
-    c.args.options.now.budget c.program_is_linked.ensures c.in-Ok.settled c.classes_are_from_files.ensures
+    c.args.options.now.budget c.show_linked.ensures c.in-Ok.settled c.show_from_files.ensures
     (rw c.in-Ok.is at c.requires.settled.settled)) gathered)
     c.image_of.ensures.gathered
 

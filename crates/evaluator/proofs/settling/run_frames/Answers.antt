@@ -3,8 +3,8 @@ use Rattle.machine.specs.Linked.{program_of}
 use Rattle.semantics.specs.Alone.{Unpaid}
 use Rattle.vm_state.specs.Segments.{frames_of}
 use Rattle.region_shape.specs.Regions.{region_of, environment_of}
-use Rattle.evaluator.proofs.DeskLemmas.{begins_there}
-use Rattle.evaluator.proofs.TurnsLemmas.{further, stops_further, goes_over, goes_further}
+use Rattle.evaluator.proofs.CourseLemmas.{begins_there}
+use Rattle.evaluator.proofs.StepsLemmas.{further, stops_further, goes_over, goes_further}
 use Rattle.evaluator.proofs.settling.run_frames.Goals as goal
 
 pub loop-left-init : goal.loop-left-init
@@ -13,8 +13,8 @@ loop-left-init c = record {
       c.args.given.class c.args.budget
       (frames_of c.args.segment.now) (region_of c.args.store.now.own);
   within = omega arith;
-  steps = c.new-desk.ensures.steps c.args.given.program.now;
-  alone = c.new-desk.ensures.alone c.args.given.class;
+  steps = c.new-courses.ensures.steps c.args.given.program.now;
+  alone = c.new-courses.ensures.alone c.args.given.class;
 }
 
 pub loop-left-preserved : goal.loop-left-preserved
@@ -26,10 +26,10 @@ loop-left-preserved c =
     let fits : ahead.ahead ≤ left = omega (arith, ahead.ensures.ahead.most) in
     let before = goes_further P env c.args.given.class c.loop-left.invariant.goes
     (ahead.ensures.ahead.goes env left fits) in
-    let turn = rw c.in-On.is at c.in_ok-take_turn.ensures in
+    let step = rw c.in-On.is at c.in_ok-take_step.ensures in
     record {
       goes = further P env c.args.given.class (suc (left - 1 - ahead.ahead))
-          (left - 1 - ahead.ahead - c.take_turn.new.store.made) c.saturating_sub-left.result before turn
+          (left - 1 - ahead.ahead - c.take_step.new.store.made) c.saturating_sub-left.result before step
           (omega (arith, ahead.ensures.ahead.most, c.loop-left-test.true)) (sym c.saturating_sub-left.ensures);
       within = omega (arith, c.loop-left.invariant.within, c.saturating_sub-left.ensures);
       steps = ahead.ensures.steps;
@@ -45,10 +45,10 @@ returns-in-Over c =
     let fits : ahead.ahead ≤ left = omega (arith, ahead.ensures.ahead.most) in
     let before = goes_further P env c.args.given.class c.loop-left.invariant.goes
     (ahead.ensures.ahead.goes env left fits) in
-    let turn = rw c.in-Over.is at c.in_ok-take_turn.ensures in
-    let rest = left - 1 - ahead.ahead - c.take_turn.new.store.made in
+    let step = rw c.in-Over.is at c.in_ok-take_step.ensures in
+    let rest = left - 1 - ahead.ahead - c.take_step.new.store.made in
     goes_over P env c.args.given.class
-    (further P env c.args.given.class (suc (left - 1 - ahead.ahead)) rest rest before turn
+    (further P env c.args.given.class (suc (left - 1 - ahead.ahead)) rest rest before step
     (omega (arith, ahead.ensures.ahead.most, c.loop-left-test.true)) refl)
 
 pub returns-in-Stopped : goal.returns-in-Stopped
@@ -60,8 +60,8 @@ returns-in-Stopped c =
     let fits : ahead.ahead ≤ left = omega (arith, ahead.ensures.ahead.most) in
     let before = goes_further P env c.args.given.class c.loop-left.invariant.goes
     (ahead.ensures.ahead.goes env left fits) in
-    let turn = rw c.in-Stopped.is at c.in_ok-take_turn.ensures in
-    stops_further P env c.args.given.class (suc (left - 1 - ahead.ahead)) before turn
+    let step = rw c.in-Stopped.is at c.in_ok-take_step.ensures in
+    stops_further P env c.args.given.class (suc (left - 1 - ahead.ahead)) before step
     (omega (arith, ahead.ensures.ahead.most, c.loop-left-test.true))
 
 pub returns : goal.returns

@@ -3,8 +3,8 @@ use Rattle.vm_state.specs.Segments.{frames_of}
 use Rattle.courses.specs.steps.StepTables.{KeepsSteps}
 use Rattle.machine.specs.Linked.{program_of}
 use Rattle.region_shape.specs.Regions.{region_of, environment_of}
-use Rattle.evaluator.specs.steps.Desks.{IsAlone}
-use Rattle.evaluator.specs.steps.Turns.{GoesOn}
+use Rattle.evaluator.specs.steps.Courses.{IsAlone}
+use Rattle.evaluator.specs.steps.Steps.{GoesOn}
 use Rattle.evaluator.proofs.settling.run_frames.Given as goal
 
 abbrev pub invariant-loop-left : goal.invariant-loop-left
@@ -13,8 +13,8 @@ invariant-loop-left l = record {
       (frames_of l.fn.segment)
       (region_of l.fn.store.own) l.budget (frames_of l.segment) (region_of l.store.own) l.left;
   within : l.left ≤ l.budget;
-  steps : KeepsSteps l.given.program.now l.desk.table;
-  alone : IsAlone l.given.class l.desk.shared;
+  steps : KeepsSteps l.given.program.now l.courses.table;
+  alone : IsAlone l.given.class l.courses.shared;
 }
 
 abbrev pub decreases-loop-left : goal.decreases-loop-left

@@ -7,5 +7,5 @@ use Rattle.explain.proofs.reruns.costs_more.Goals as goal
 pub returns : goal.returns
 returns c =
     told_over stop_excludes_lem one_stop_lem (program_of c.args.program.now) (environment_of c.args.regions.now)
-    c.args.class c.args.budget c.in_ok-ending.ending c.is_over-over.result c.is_over-over.ensures.yes
-    c.is_over-over.ensures.no c.in_ok-ending.ensures
+    c.args.class c.args.budget c.in_ok-evaluation.evaluation c.is_over-over.result c.is_over-over.ensures.yes
+    c.is_over-over.ensures.no c.in_ok-evaluation.ensures

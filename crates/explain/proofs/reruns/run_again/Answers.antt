@@ -11,11 +11,12 @@ use Rattle.explain.proofs.reruns.run_again.Goals as goal
 pub returns : goal.returns
 returns c =
     subst (λ (env : Environment). IsRerun (program_of c.args.image.now.program) env c.args.class c.args.greatest
-    (record { budget = c.in_ok-budget.budget; ending = c.in_ok-ending.ending })) c.in_ok-regions.ensures
+    (record { budget = c.in_ok-budget.budget; evaluation = c.in_ok-evaluation.evaluation })) c.in_ok-regions.ensures
     (subst (λ (P : Tables). IsRerun (program_of P) (environment_of c.in_ok-regions.regions) c.args.class c.args.greatest
-    (record { budget = c.in_ok-budget.budget; ending = c.in_ok-ending.ending })) c.program-program.ensures (record {
+    (record { budget = c.in_ok-budget.budget; evaluation = c.in_ok-evaluation.evaluation })) c.program-program.ensures
+    (record {
       least = c.in_ok-budget.ensures;
-      ending = ends_at stop_excludes_lem (program_of c.program-program.result.now)
+      evaluation = ends_at stop_excludes_lem (program_of c.program-program.result.now)
           (environment_of c.in_ok-regions.regions) c.args.class c.args.greatest c.in_ok-budget.budget
-          c.in_ok-ending.ending c.in_ok-budget.ensures c.in_ok-ending.ensures;
+          c.in_ok-evaluation.evaluation c.in_ok-budget.ensures c.in_ok-evaluation.ensures;
     }))
