@@ -7,10 +7,10 @@ ghost use Rattle.use_graph.specs.declared.mark.Mark.{Mark as Kind};
 ghost use Rattle.use_graph.specs.Uses.{Tells};
 ghost use Rattle.use_graph.specs.steps.Bodies.{IsUseGraph};
 ghost use Rattle.use_graph.specs.steps.Deeds.{HoldsOfOne};
-ghost use Rattle.explain.specs.declared.bearers.Source.{Source as Held};
+ghost use Rattle.explain.specs.declared.bearers.VertexBearer.{VertexBearer as Held};
 ghost use Rattle.explain.specs.steps.Marking.{AreEvidences, AreSources, AreTold, IsMarking, IsSourceAt, IsSourceOf};
 
-use crate::bearers::{Bearer, Pair, Source};
+use crate::bearers::{Bearer, Pair, VertexBearer};
 use crate::nearest::nearest;
 use graph::{Graph, reversed};
 use hierarchy::member::DeclaredMember;
@@ -38,7 +38,7 @@ fn add_bearer(
     vertex: usize,
     method: DeclaredMember,
     mark: Mark,
-    sources: &mut Vec<Source>,
+    sources: &mut Vec<VertexBearer>,
 ) -> Result<(), AllocError>
     ensures { OnOk result ((s : Held) → Contains sources.new.items s
         ↔ (Contains sources.old.items s ⊎ IsSourceOf mark vertex method item s)) }
@@ -50,7 +50,7 @@ fn add_bearer(
             pc: item.pc,
         };
         let field_class = item.feature.field_class();
-        sources.push(Source {
+        sources.push(VertexBearer {
             vertex,
             bearer: Bearer { at, field_class },
         })?;
@@ -64,7 +64,7 @@ fn add_bearers(
     vertex: usize,
     method: DeclaredMember,
     mark: Mark,
-    sources: &mut Vec<Source>,
+    sources: &mut Vec<VertexBearer>,
 ) -> Result<(), AllocError>
     ensures { OnOk result ((s : Held) → Contains sources.new.items s
         ↔ (Contains sources.old.items s ⊎ HoldsOfOne (IsSourceOf mark vertex method) told.now s)) }
@@ -80,7 +80,7 @@ fn add_vertex(
     uses: &UseGraph,
     vertex: usize,
     mark: Mark,
-    sources: &mut Vec<Source>,
+    sources: &mut Vec<VertexBearer>,
 ) -> Result<(), AllocError>
     ensures { OnOk result ((s : Held) → Contains sources.new.items s
         ↔ (Contains sources.old.items s ⊎ IsSourceAt uses.now mark vertex s)) }
@@ -96,7 +96,7 @@ fn add_vertex(
 }
 
 /// Which vertices of the calls bear a mark for some class, and where.
-fn sources_of(alloc: Global, uses: &UseGraph, mark: Mark) -> Result<Vec<Source>, AllocError>
+fn sources_of(alloc: Global, uses: &UseGraph, mark: Mark) -> Result<Vec<VertexBearer>, AllocError>
     ensures { IfOk result (λ sources. AreSources uses.now mark sources.items) }
 {
     let mut sources = Vec::new(alloc);

@@ -5,7 +5,7 @@ ghost use Rattle.std.specs.Prelude.{Some, ◌<◌, ◌^◌};
 ghost use Rattle.vm_state.specs.declared.value.Value.TheVariants.{Int, Long};
 ghost use Rattle.vm_state.specs.steps.Elements.{values_of, brief_value, char_value};
 
-use crate::elements::{Brief, Element, Elements, Few, put_element, put_few, put_narrow, value_at};
+use crate::elements::{Brief, Elements, Few, Packed, put_element, put_few, put_narrow, value_at};
 use crate::value::Value;
 use std::alloc::AllocError;
 
@@ -38,7 +38,7 @@ fn counted_value(values: &[Value], slot: usize) -> Option<(usize, Value)>
 
 /// Puts a value into a slot, where there is one and it fits, and says how many there are: not more than an int can say.
 #[inline(always)]
-fn put_counted<E: Element>(elements: &mut Vec<E>, slot: usize, value: Value) -> Option<usize>
+fn put_counted<E: Packed>(elements: &mut Vec<E>, slot: usize, value: Value) -> Option<usize>
     ensures slot { IfSome result (λ n. (slot < n) × (n < 2 ^ 31)) }
     ensures count { IfSome result (λ n. n ≡ length (map E.value_of elements.old.items)) }
     ensures some { IfSome result
