@@ -13,7 +13,7 @@ use std::alloc::{AllocError, Global};
 use std::io::{self, Write};
 use std::marker::Brand;
 use thread_runner::origin::Origin;
-use thread_runner::running::stretch;
+use thread_runner::running::front_stretch;
 use thread_runner::{Book, Commit};
 
 /// No run here takes as many commits.
@@ -57,8 +57,8 @@ fn commit_in<O: Origin, W: Write>(
     tell_book(page, &mut book)
 }
 
-/// Commits of the first thread up to the first that does not move: each of a stretch over its frames and the classes
-/// that are initialized.
+/// Commits of the first thread up to the first that does not move: each of a stretch over its innermost frame and the
+/// classes that are initialized.
 fn commit_on<O: Origin>(
     alloc: Global,
     program: &Program,
@@ -86,10 +86,12 @@ fn commit_one<O: Origin>(
     requires program { program.now ≡ O.program }
     requires thread { 0 < length book.old.past.world.threads }
 {
-    let frames = book.frames(alloc, 0)?;
     let done = book.done(alloc, program)?;
-    let made = stretch::<O>(alloc, program, frames, &done)?;
-    let commit = book.commit(alloc, program, 0, made)?;
+    let made = match book.front(alloc, 0)? {
+        Some(frame) => front_stretch::<O>(alloc, program, 0, frame, &done)?,
+        None => None,
+    };
+    let commit = book.commit_front(alloc, program, 0, made)?;
     Ok(matches!(commit, Commit::Moved))
 }
 

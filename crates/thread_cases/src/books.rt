@@ -3,7 +3,7 @@
 ghost use Rattle.std.specs.Prelude.{◌≡◌, ◌<◌, length};
 ghost use Rattle.init_engine.specs.Turns.{world_of};
 
-use crate::programs::{M, SPIN, SQ, program_of, start_with};
+use crate::programs::{SPIN, SQ, program_of, start_with};
 use init_engine::World;
 use journal::Journal;
 use program::Program;
@@ -13,26 +13,8 @@ use std::process::Abort;
 use std::test::*;
 use thread_runner::done_set::DoneSet;
 use thread_runner::origin::Origin;
-use thread_runner::running::{front_stretch, stretch};
-use thread_runner::stretch::Stretch;
+use thread_runner::running::front_stretch;
 use thread_runner::{Book, Commit, FrontStretch};
-
-/// What a thread takes from a book, and what it commits: all its frames, or its innermost one alone, as the threads of
-/// a run do.
-#[derive(Clone, Copy)]
-enum Way {
-    Frames,
-    Front,
-}
-
-const WAYS: [Way; 2] = [Way::Frames, Way::Front];
-
-/// A stretch that was made one of these ways.
-#[derive(Drop)]
-enum Made<O: Origin> {
-    Frames(Stretch<O>),
-    Front(Option<FrontStretch<O>>),
-}
 
 /// How many steps each commit of a thread counted up to the first that answered `Ended`, and the journal's text.
 #[derive(Drop)]
@@ -61,21 +43,14 @@ fn make<O: Origin>(
     alloc: Global,
     program: &Program,
     book: &Book<O>,
-    way: Way,
     done: DoneSet,
-) -> Result<Made<O>, Fail>
+) -> Result<Option<FrontStretch<O>>, Fail>
     requires program { program.now ≡ O.program }
     requires thread { 0 < length book.now.past.world.threads }
 {
-    match way {
-        Way::Frames => {
-            let frames = book.frames(alloc, 0)?;
-            Ok(Made::Frames(stretch::<O>(alloc, program, frames, &done)?))
-        }
-        Way::Front => match book.front(alloc, 0)? {
-            Some(frame) => Ok(Made::Front(front_stretch::<O>(alloc, program, 0, frame, &done)?)),
-            None => Ok(Made::Front(None)),
-        },
+    match book.front(alloc, 0)? {
+        Some(frame) => Ok(front_stretch::<O>(alloc, program, 0, frame, &done)?),
+        None => Ok(None),
     }
 }
 
@@ -84,16 +59,13 @@ fn commit<O: Origin>(
     alloc: Global,
     program: &Program,
     book: &mut Book<O>,
-    made: Made<O>,
+    made: Option<FrontStretch<O>>,
 ) -> Result<Commit, Fail>
     requires program { program.now ≡ O.program }
     requires thread { 0 < length book.old.past.world.threads }
     ensures { length book.new.past.world.threads ≡ length book.old.past.world.threads }
 {
-    match made {
-        Made::Frames(stretch) => Ok(book.commit(alloc, program, 0, stretch)?),
-        Made::Front(stretch) => Ok(book.commit_front(alloc, program, 0, stretch)?),
-    }
+    Ok(book.commit_front(alloc, program, 0, made)?)
 }
 
 /// A stretch of the only thread from where it is, committed: over the classes that are initialized, or over none.
@@ -101,7 +73,6 @@ fn commit_next<O: Origin>(
     alloc: Global,
     program: &Program,
     book: &mut Book<O>,
-    way: Way,
     known: bool,
 ) -> Result<Commit, Fail>
     requires { program.now ≡ O.program }
@@ -115,7 +86,7 @@ fn commit_next<O: Origin>(
     } else {
         DoneSet::none()
     };
-    let made = make::<O>(alloc, program, book, way, done)?;
+    let made = make::<O>(alloc, program, book, done)?;
     commit(alloc, program, book, made)
 }
 
@@ -124,7 +95,6 @@ fn commits_in<O: Origin>(
     alloc: Global,
     program: &Program,
     world: World,
-    way: Way,
     known: bool,
 ) -> Result<Commits, Fail>
     requires program { program.now ≡ O.program }
@@ -134,7 +104,7 @@ fn commits_in<O: Origin>(
     let mut steps = Vec::new(alloc);
     for _ in 0..20 {
         let before = steps_in(book.journal());
-        match commit_next(alloc, program, &mut book, way, known)? {
+        match commit_next(alloc, program, &mut book, known)? {
             Commit::Moved => steps.push(steps_in(book.journal()).wrapping_sub(before))?,
             Commit::Ended => {
                 let text = text_of(alloc, &book)?;
@@ -152,56 +122,33 @@ fn commits_of(
     text: &str,
     entry: &str,
     initialized: &[&str],
-    way: Way,
     known: bool,
 ) -> Result<Commits, Fail> {
     let program = program_of(alloc, text)?;
     let world = start_with(alloc, &program, &[entry], initialized)?;
-    commits_in::<Brand>(alloc, &program, world, way, known)
+    commits_in::<Brand>(alloc, &program, world, known)
 }
 
 #[test]
 fn a_loop_is_committed_by_stretches(rt: HostRuntime) -> Result<(), Fail> {
-    for way in WAYS.iter() {
-        let made = commits_of(rt.alloc(), SPIN, "Spin", &["Spin"], *way, true)?;
-        assert_eq!(rt; made.steps.as_slice(), [1024, 1024, 956].as_slice());
-        assert_eq!(rt; made.text.as_slice(), b"0 3004\n".as_slice());
-    }
+    let made = commits_of(rt.alloc(), SPIN, "Spin", &["Spin"], true)?;
+    assert_eq!(rt; made.steps.as_slice(), [1024, 1024, 956].as_slice());
+    assert_eq!(rt; made.text.as_slice(), b"0 3004\n".as_slice());
     Ok(())
 }
 
 #[test]
 fn a_call_is_local_where_its_class_is_known(rt: HostRuntime) -> Result<(), Fail> {
-    for way in WAYS.iter() {
-        let made = commits_of(rt.alloc(), SQ, "Main21", &["Sq", "Main21"], *way, true)?;
-        assert_eq!(rt; made.steps.as_slice(), [9].as_slice());
-        assert_eq!(rt; made.text.as_slice(), b"0 9\n".as_slice());
-    }
+    let made = commits_of(rt.alloc(), SQ, "Main21", &["Sq", "Main21"], true)?;
+    assert_eq!(rt; made.steps.as_slice(), [9].as_slice());
+    assert_eq!(rt; made.text.as_slice(), b"0 9\n".as_slice());
     Ok(())
 }
 
-/// A stretch on all frames goes on below the callee, and one on the innermost frame ends with it.
+/// A stretch on the innermost frame ends with it.
 #[test]
 fn a_call_is_committed_where_its_class_is_not_known(rt: HostRuntime) -> Result<(), Fail> {
-    let initialized = ["Sq", "Main21"];
-    let made = commits_of(
-        rt.alloc(),
-        SQ,
-        "Main21",
-        initialized.as_slice(),
-        Way::Frames,
-        false,
-    )?;
-    assert_eq!(rt; made.steps.as_slice(), [1, 2, 6].as_slice());
-    assert_eq!(rt; made.text.as_slice(), b"0 9\n".as_slice());
-    let made = commits_of(
-        rt.alloc(),
-        SQ,
-        "Main21",
-        initialized.as_slice(),
-        Way::Front,
-        false,
-    )?;
+    let made = commits_of(rt.alloc(), SQ, "Main21", &["Sq", "Main21"], false)?;
     assert_eq!(rt; made.steps.as_slice(), [1, 2, 4, 2].as_slice());
     assert_eq!(rt; made.text.as_slice(), b"0 9\n".as_slice());
     Ok(())
@@ -212,37 +159,30 @@ fn commit_both<O: Origin>(
     alloc: Global,
     program: &Program,
     book: &mut Book<O>,
-    way: Way,
 ) -> Result<(Commit, Commit, Vec<u8>), Fail>
     requires program { program.now ≡ O.program }
     requires thread { 0 < length book.old.past.world.threads }
 {
-    let first = make::<O>(alloc, program, book, way, DoneSet::none())?;
-    let other = make::<O>(alloc, program, book, way, DoneSet::none())?;
+    let first = make::<O>(alloc, program, book, DoneSet::none())?;
+    let other = make::<O>(alloc, program, book, DoneSet::none())?;
     let counts = commit(alloc, program, book, first)?;
     let stale = commit(alloc, program, book, other)?;
     Ok((counts, stale, text_of(alloc, book)?))
 }
 
-/// Two commits of stretches made where the thread is, at a start or after a first commit.
+/// Two commits of stretches made where the thread is after a first commit.
 fn commit_twice<O: Origin>(
     alloc: Global,
     program: &Program,
     world: World,
-    way: Way,
-    later: bool,
 ) -> Result<(Commit, Commit, Vec<u8>), Fail>
     requires program { program.now ≡ O.program }
     requires start { world_of world ≡ O.start }
     requires thread { 0 < length world.threads }
 {
     let mut book = Book::<O>::new(alloc, world, 10_000);
-    if later {
-        let _first = commit_next(alloc, program, &mut book, way, false)?;
-        commit_both(alloc, program, &mut book, way)
-    } else {
-        commit_both(alloc, program, &mut book, way)
-    }
+    let _first = commit_next(alloc, program, &mut book, false)?;
+    commit_both(alloc, program, &mut book)
 }
 
 /// Of two stretches from one place of a thread the first counts, and the other does not.
@@ -250,8 +190,6 @@ fn counts_once<R: AllocGlobal + Abort>(
     rt: &R,
     text: &str,
     entry: &str,
-    way: Way,
-    later: bool,
     journal: &[u8],
 ) -> Result<(), Fail> {
     let program = program_of(rt.alloc(), text)?;
@@ -259,7 +197,7 @@ fn counts_once<R: AllocGlobal + Abort>(
     if world.thread_count() == 0 {
         return Err(Fail::new("no thread"));
     }
-    let (counts, stale, text) = commit_twice::<Brand>(rt.alloc(), &program, world, way, later)?;
+    let (counts, stale, text) = commit_twice::<Brand>(rt.alloc(), &program, world)?;
     assert!(rt; matches!(counts, Commit::Moved));
     assert!(rt; matches!(stale, Commit::Stale));
     assert_eq!(rt; text.as_slice(), journal);
@@ -268,11 +206,7 @@ fn counts_once<R: AllocGlobal + Abort>(
 
 #[test]
 fn frames_that_were_taken_twice_count_once(rt: HostRuntime) -> Result<(), Fail> {
-    counts_once(&rt, M, "M", Way::Frames, false, b"0 1\n".as_slice())?;
-    for way in WAYS.iter() {
-        counts_once(&rt, SPIN, "Spin", *way, true, b"0 1025\n".as_slice())?;
-    }
-    Ok(())
+    counts_once(&rt, SPIN, "Spin", b"0 1025\n".as_slice())
 }
 
 /// The classes that are initialized in a start.
@@ -288,7 +222,6 @@ fn commit_over<O: Origin>(
     alloc: Global,
     program: &Program,
     world: World,
-    way: Way,
     done: DoneSet,
 ) -> Result<(Commit, Vec<u8>), Fail>
     requires program { program.now ≡ O.program }
@@ -296,14 +229,14 @@ fn commit_over<O: Origin>(
     requires thread { 0 < length world.threads }
 {
     let mut book = Book::<O>::new(alloc, world, 10_000);
-    let _first = commit_next(alloc, program, &mut book, way, false)?;
-    let made = make::<O>(alloc, program, &book, way, done)?;
+    let _first = commit_next(alloc, program, &mut book, false)?;
+    let made = make::<O>(alloc, program, &book, done)?;
     let answer = commit(alloc, program, &mut book, made)?;
     Ok((answer, text_of(alloc, &book)?))
 }
 
 /// What the second stretch answers over classes that are initialized in another start alone, and the journal's text.
-fn commit_over_another_start(alloc: Global, way: Way) -> Result<(Commit, Vec<u8>), Fail> {
+fn commit_over_another_start(alloc: Global) -> Result<(Commit, Vec<u8>), Fail> {
     let program = program_of(alloc, SQ)?;
     let both = start_with(alloc, &program, &["Main21"], &["Sq", "Main21"])?;
     let done = done_in::<Brand>(alloc, &program, both)?;
@@ -311,15 +244,13 @@ fn commit_over_another_start(alloc: Global, way: Way) -> Result<(Commit, Vec<u8>
     if world.thread_count() == 0 {
         return Err(Fail::new("no thread"));
     }
-    commit_over::<Brand>(alloc, &program, world, way, done)
+    commit_over::<Brand>(alloc, &program, world, done)
 }
 
 #[test]
 fn a_stretch_over_another_start_is_stale(rt: HostRuntime) -> Result<(), Fail> {
-    for way in WAYS.iter() {
-        let (answer, text) = commit_over_another_start(rt.alloc(), *way)?;
-        assert!(rt; matches!(answer, Commit::Stale));
-        assert_eq!(rt; text.as_slice(), b"0 1\n".as_slice());
-    }
+    let (answer, text) = commit_over_another_start(rt.alloc())?;
+    assert!(rt; matches!(answer, Commit::Stale));
+    assert_eq!(rt; text.as_slice(), b"0 1\n".as_slice());
     Ok(())
 }

@@ -1,117 +1,30 @@
 -- A history grows by the steps of a commit.
-use Rattle.std.proofs.Common.{◌≡◌, ◌≢◌, ℕ, zero, suc, ◌+◌, ◌<◌, ◌≤◌, ◌++◌, List, [], ◌∷◌, Option, Some, None, refl}
+use Rattle.std.proofs.Common.{◌≡◌, ℕ, zero, suc, ◌+◌, ◌<◌, ◌≤◌, ◌++◌, List, [], ◌∷◌, Option, Some, None, refl}
 use Rattle.std.proofs.Common.{sym, ap, subst, ◌∙◌, arith, slice_get, replicate, length, length-append}
-use Rattle.std.proofs.Common.{option_and_then, append-nil, inl, inr, Bool, Ok, Err}
+use Rattle.std.proofs.Common.{append-nil, inl, inr, Ok, Err}
 use Rattle.std.specs.Prelude.{IfOk}
 use Rattle.std.specs.declared.result.Result.{Result}
 use Rattle.std.proofs.lemmas.List.{length-replicate}
-use Rattle.vm_state.specs.declared.frame.Frame.{Frame}
-use Rattle.vm_state.specs.declared.initialization.Frames.{Frames}
-use Rattle.vm_state.specs.declared.initialization.Level.{Level}
+use Rattle.vm_state.specs.declared.frame.Segment.{Segment}
 use Rattle.vm_state.specs.Output.{Print}
 use Rattle.vm_state.specs.Shares.{shared_of}
-use Rattle.semantics.specs.Steps.{Thread, Going, Ended}
 use Rattle.semantics.specs.Worlds.{World, Run, step}
 use Rattle.semantics.proofs.RunsLemmas.{runs_join_lem, run_more}
 use Rattle.program.specs.Tables.{Tables}
-use Rattle.machine.specs.Effects.{going}
 use Rattle.machine.specs.Linked.{program_of}
 use Rattle.init_engine.specs.Schedules.{schedule_of, AreRuns}
-use Rattle.init_engine.specs.Stacks.{IsStackOf, with_thread}
 use Rattle.init_engine.specs.Standing.{Standing}
 use Rattle.init_engine.specs.Turns.{Goes, IsOver, IsTurn, Prints, world_of}
 use Rattle.init_engine.specs.declared.world.Turn.{Turn}
 use Rattle.init_engine.specs.declared.world.Turn.TheVariants as turns
-use Rattle.thread_runner.specs.Local.{local_steps, local_step}
-use Rattle.thread_runner.specs.Stretches.{IsLocalRun, Reach}
 use Rattle.thread_runner.specs.Kept.{Grows, IsKept, Past, steps_of}
-use Rattle.thread_runner.specs.Commits.{Fits, GoesOn, IsCommit, IsCounted, MovedTo, after, there}
+use Rattle.thread_runner.specs.Commits.{GoesOn, IsCounted, MovedTo}
 use Rattle.thread_runner.specs.Fronts.{FitsFront, FrontReach, IsFrontCommit, after_front, front_count}
 use Rattle.thread_runner.specs.declared.history.Commit.{Commit}
 use Rattle.thread_runner.specs.declared.history.Commit.TheVariants as commits
-use Rattle.thread_runner.specs.declared.landing.Landing.{Landing}
-use Rattle.thread_runner.specs.declared.landing.Landing.TheVariants as landings
 use Rattle.thread_runner.specs.steps.Advances.{answered, counted}
-use Rattle.thread_runner.specs.steps.Landings.{MayLand, landed}
-use Rattle.init_engine.proofs.SetLemmas.{get_set, set_same}
-use Rattle.thread_runner.proofs.LocalLemmas.{set_twice, local_run, replicate-more}
-
-abbrev with_threads : World → List Thread → World
-with_threads w ts = record { shared = w.shared; threads = ts }
-
-pub put_back : (w : World) (t : ℕ) (a b : Thread) → slice_get w.threads t ≡ Some a
-    → with_thread (with_thread w t b) t a ≡ w
-put_back w t a b at = ap (with_threads w) (set_twice w.threads t b a ∙ sym (set_same w.threads t a at))
-
--- a thread without frames makes no local step
-no_steps : (P : Tables) (done : List Bool) (n : ℕ) → local_steps P done (suc n) (Going [] []) ≡ None
-no_steps P done zero = refl
-no_steps P done (suc n) = ap (option_and_then (local_step P done)) (no_steps P done n)
-
-none_gone : (P : Tables) (done : List Bool) (n : ℕ) (s : Frames) (b : Thread) → going s ≡ Going [] [] → 0 < n
-    → local_steps P done n (going s) ≢ Some b
-none_gone P done zero s b is some h = omega (arith, some)
-none_gone P done (suc n) s b is some h =
-    let e : None ≡ Some b = sym (no_steps P done n) ∙ (ap (local_steps P done (suc n)) (sym is) ∙ h) in absurd cc
-
--- a thread that makes local steps stands so
-stands_so : (P : Tables) (done : List Bool) (n : ℕ) (o : Option Thread) (s : Frames) (b : Thread) → IsStackOf o s
-    → 0 < n → local_steps P done n (going s) ≡ Some b → o ≡ Some (going s)
-stands_so P done n None s b stack some h = absurd stack
-stands_so P done n (Some (Going fs ls)) s b stack some h = ap Some (sym stack)
-stands_so P done n (Some (Ended end)) s b stack some h = absurd (none_gone P done n s b stack some h)
-
-pub goes_so : (o : Option Thread) (s : Frames) → o ≡ Some (going s) → Goes o
-goes_so o s h = subst Goes (sym h) tt
-
-pub has_gone : (P : Tables) (w : World) (t : ℕ) (s : Reach) → Fits w t s → IsLocalRun P s → 0 < s.count
-    → Goes (slice_get w.threads t)
-has_gone P w t s fits run some =
-    goes_so (slice_get w.threads t) s.from
-    (stands_so P s.done s.count (slice_get w.threads t) s.from (going s.to) fits.0.1 some run)
-
--- where its frames are, a stretch leads to the world after it
-led_by : (P : Tables) (w : World) (t : ℕ) (s : Reach) (n : ℕ) → s.count ≡ n → Fits w t s → IsLocalRun P s
-    → Run (program_of P) w (replicate n t) (there w t s.to n)
-led_by P w t s zero is fits run = refl
-led_by P w t s (suc n) is fits run =
-    let some : 0 < s.count = omega (arith, is) in
-    let at = stands_so P s.done s.count (slice_get w.threads t) s.from (going s.to) fits.0.1 some run in
-    local_run P s.done w fits.1 t (going s.from) at (suc n) (going s.to)
-    (subst (λ k. local_steps P s.done k (going s.from) ≡ Some (going s.to)) is run)
-
-pub led_there : (P : Tables) (w : World) (t : ℕ) (s : Reach) → Fits w t s → IsLocalRun P s
-    → Run (program_of P) w (replicate s.count t) (after w t s)
-led_there P w t s fits run = led_by P w t s s.count refl fits run
-
--- ---- what advance does
-
-pub gone : (o : Option Thread) → Goes o → (fs : List Frame) × (ls : List Level) × (o ≡ Some (Going fs ls))
-gone None h = absurd h
-gone (Some (Going fs ls)) h = (fs, ls, refl)
-gone (Some (Ended end)) h = absurd h
-
-far_here : (P : Tables) (w v : World) (t : ℕ) (to : Frames) (count : ℕ) (turn : Turn) → count ≡ 0
-    → IsTurn (program_of P) w t turn v → IsTurn (program_of P) (there w t to count) t turn v
-far_here P w v t to zero turn is h = h
-far_here P w v t to (suc n) turn is h = absurd (omega (arith, is))
-
-pub far_here_if : {E : Type 0} (P : Tables) (w v : World) (t : ℕ) (to : Frames) (count : ℕ) (r : Result Turn E)
-    → count ≡ 0 → IfOk r (λ turn. IsTurn (program_of P) w t turn v)
-    → IfOk r (λ turn. IsTurn (program_of P) (there w t to count) t turn v)
-far_here_if P w v t to count (Ok turn) is h = far_here P w v t to count turn is h
-far_here_if P w v t to count (Err e) is h = tt
-
--- exchanged twice
-pub exchanged_back : (w m n u : World) (t : ℕ) (a b : Thread) → slice_get w.threads t ≡ Some a
-    → m ≡ with_thread w t b → n ≡ m → u ≡ with_thread n t a → u ≡ w
-exchanged_back w m n u t a b at there same back =
-    back ∙ (ap (λ (x : World). with_thread x t a) (same ∙ there) ∙ put_back w t a b at)
-
-pub stands_there : (w m n : World) (t : ℕ) (a b : Thread) → slice_get w.threads t ≡ Some a
-    → m ≡ with_thread w t b → n ≡ m → slice_get n.threads t ≡ Some b
-stands_there w m n t a b at there same =
-    ap (λ (x : World). slice_get x.threads t) (same ∙ there) ∙ get_set w.threads t a b at
+use Rattle.thread_runner.specs.steps.Landings.{HasFront, MayLand, landed}
+use Rattle.thread_runner.proofs.LocalLemmas.{replicate-more}
 
 -- ---- what was printed
 
@@ -237,34 +150,15 @@ steps_counted P old new t (suc n) far turns.Ended same is grown none limit =
     subst (λ (o : Option World). MovedTo old t (suc n) far o new) (sym is.1)
     (omega arith, record { world = is.2; journal = grown; limit = limit })
 
-none_there : (w : World) (t : ℕ) (to : Frames) (n : ℕ) → NoneLeads w n (there w t to n)
-none_there w t to zero is = refl
-none_there w t to (suc n) is = absurd (omega (arith, is))
+pub lands_on : (w : World) (t : ℕ) (top : Option Segment) (n : ℕ) → MayLand w t top n → HasFront w t top
+lands_on w t None n may = tt
+lands_on w t (Some top) n may = may.1
 
 -- where a thread lands after no step
-pub lands_none : (w : World) (t : ℕ) (to : Landing) (n : ℕ) → MayLand w t to n → NoneLeads w n (landed w t to n)
-lands_none w t (landings.Whole to) n may = none_there w t to n
-lands_none w t (landings.Top top) n may = λ is. absurd (omega (arith, is, may.0))
-
--- a commit that counts
-counts : (P : Tables) (old : Past) (t : ℕ) (s : Reach) (a : Commit) (new : Past) → steps_of old < old.limit
-    → Fits (world_of old.world) t s → IsCounted P old t s.count (after (world_of old.world) t s) a new
-    → IsCommit P old t s a new
-counts P old t s commits.Full new below fits h = absurd h
-counts P old t s commits.Stale new below fits h = absurd h
-counts P old t s commits.Moved new below fits h = (below, fits, h)
-counts P old t s commits.Waiting new below fits h = (below, fits, h)
-counts P old t s commits.Ended new below fits h = (below, fits, h)
-
-pub counts_if : {E : Type 0} (P : Tables) (old : Past) (t : ℕ) (s : Reach) (to : Frames) (n : ℕ) (r : Result Commit E)
-    (new : Past) → n ≡ s.count → to ≡ s.to → steps_of old < old.limit → Fits (world_of old.world) t s
-    → IfOk r (λ a. IsCounted P old t n (there (world_of old.world) t to n) a new)
-    → IfOk r (λ a. IsCommit P old t s a new)
-counts_if P old t s to n (Ok a) new is at below fits h =
-    counts P old t s a new below fits
-    (subst (λ (f : Frames). IsCounted P old t s.count (there (world_of old.world) t f s.count) a new) at
-    (subst (λ k. IsCounted P old t k (there (world_of old.world) t to k) a new) is h))
-counts_if P old t s to n (Err e) new is at below fits h = tt
+pub lands_none : (w : World) (t : ℕ) (top : Option Segment) (n : ℕ) → MayLand w t top n
+    → NoneLeads w n (landed w t top)
+lands_none w t None n may = λ is. refl
+lands_none w t (Some top) n may = λ is. absurd (omega (arith, is, may.0))
 
 -- ---- a commit of a front
 

@@ -1,32 +1,14 @@
 -- What a commit answers, and what it changes.
-use Rattle.std.specs.Prelude.{◌≡◌, ℕ, zero, suc, ◌+◌, ◌<◌, ◌≤◌, ◌++◌, Option, Some, None, length, replicate}
+use Rattle.std.specs.Prelude.{◌≡◌, ℕ, ◌+◌, ◌<◌, ◌≤◌, ◌++◌, Option, Some, None, length, replicate}
 use Rattle.std.specs.Prelude.{slice_get}
-use Rattle.vm_state.specs.declared.initialization.Frames.{Frames}
 use Rattle.semantics.specs.Worlds.{World, step}
 use Rattle.program.specs.Tables.{Tables}
-use Rattle.machine.specs.Effects.{going}
 use Rattle.machine.specs.Linked.{program_of}
 use Rattle.init_engine.specs.Schedules.{schedule_of}
-use Rattle.init_engine.specs.Stacks.{AreFrames, with_thread}
 use Rattle.init_engine.specs.Turns.{Goes, IsOver, world_of}
-use Rattle.thread_runner.specs.Local.{AreDone}
-use Rattle.thread_runner.specs.Stretches.{Reach}
 use Rattle.thread_runner.specs.Kept.{Grows, Pages, Past, printed_text, steps_of}
 use Rattle.thread_runner.specs.declared.history.Commit.{Commit}
 use Rattle.thread_runner.specs.declared.history.Commit.TheVariants.{Full, Stale, Moved, Waiting, Ended}
-
--- the stretch begins at the frames of thread t, and its classes are initialized
-abbrev pub Fits : World → ℕ → Reach → Type 0
-Fits w t s = AreFrames w t s.from × AreDone s.done w.shared
-
--- the world with these frames of thread t, where they are those after a step
-abbrev pub there : World → ℕ → Frames → ℕ → World
-there w t to zero = w
-there w t to (suc n) = with_thread w t (going to)
-
--- the world after the steps of a stretch
-abbrev pub after : World → ℕ → Reach → World
-after w t s = there w t s.to s.count
 
 -- all is as it was, to whoever looks at the world as the definition has it
 pub record Same (old new : Past) : Type 0 where
@@ -71,18 +53,3 @@ IsCounted P old t n there Stale new = ⊥
 IsCounted P old t n there Moved new = MovedTo old t n there (step (program_of P) there t) new
 IsCounted P old t n there Waiting new = Goes (slice_get (world_of old.world).threads t) × Stood P old t n new
 IsCounted P old t n there Ended new = IsOver (slice_get (world_of old.world).threads t) × Stood P old t n new
-
--- the stretch counts
-abbrev pub Counts : Tables → Past → ℕ → Reach → Commit → Past → Type 0
-Counts P old t s answer new = (steps_of old < old.limit) × Fits (world_of old.world) t s
-    × IsCounted P old t s.count (after (world_of old.world) t s) answer new
-
--- Full: the journal has as many steps as it may. Stale: the stretch does not begin where its thread is, or takes a
--- class to be initialized that is not. Otherwise its steps count, and one more where there is one. Moved: one counted
--- at least. Waiting and Ended: none did, and the thread has not ended, or has.
-abbrev pub IsCommit : Tables → Past → ℕ → Reach → Commit → Past → Type 0
-IsCommit P old t s Full new = (old.limit ≤ steps_of old) × Same old new
-IsCommit P old t s Stale new = (steps_of old < old.limit) × ¬ Fits (world_of old.world) t s × Same old new
-IsCommit P old t s Moved new = Counts P old t s Moved new
-IsCommit P old t s Waiting new = Counts P old t s Waiting new
-IsCommit P old t s Ended new = Counts P old t s Ended new

@@ -1,5 +1,4 @@
 pub mod Local
-pub mod Stretches
 pub mod Sendings
 pub mod Kept
 pub mod Origins

@@ -4,9 +4,9 @@ ghost use Rattle.std.specs.Prelude.{◌≡◌, ◌≢◌, ◌+◌, ◌<◌, ◌�
 ghost use Rattle.std.specs.Prelude.{length};
 ghost use Rattle.vm_state.specs.declared.classes.ClassState.TheVariants.{Initialized};
 ghost use Rattle.init_engine.specs.Schedules.{AreRuns};
-ghost use Rattle.init_engine.specs.Stacks.{AreFrames, front_of};
+ghost use Rattle.init_engine.specs.Stacks.{front_of};
 ghost use Rattle.init_engine.specs.Turns.{world_of};
-ghost use Rattle.thread_runner.specs.Commits.{IsCommit, PagesGoOn, Same};
+ghost use Rattle.thread_runner.specs.Commits.{PagesGoOn, Same};
 ghost use Rattle.thread_runner.specs.Fronts.{IsFrontCommit};
 ghost use Rattle.thread_runner.specs.Kept.{IsKept, printed_text, steps_of};
 ghost use Rattle.thread_runner.specs.Local.{AreDone, is_done};
@@ -20,7 +20,6 @@ use crate::history::{Commit, History};
 use crate::last::Slice;
 use crate::origin::Origin;
 use crate::sending::{send_further, text_length};
-use crate::stretch::Stretch;
 use courses::step_table::StepTable;
 use init_engine::World;
 use program::Program;
@@ -28,7 +27,6 @@ use sinks::{Sink, SinkFault};
 use std::alloc::{AllocError, Global};
 use std::marker::Model;
 use vm_state::frame::Frame;
-use vm_state::initialization::Frames;
 
 /// A world, the journal that leads to it from the start, and how much of what was printed has gone out.
 #[derive(Drop)]
@@ -111,17 +109,6 @@ impl<O: Origin> Book<O> {
         self.history.is_full()
     }
 
-    /// The frames of a thread; none where it has ended.
-    ///
-    /// # Errors
-    /// `AllocError` where memory is refused.
-    pub fn frames(&self, alloc: Global, thread: u32) -> Result<Frames, AllocError>
-        requires { thread < length self.now.past.world.threads }
-        ensures { IfOk result (λ s. AreFrames (world_of self.now.past.world) thread s) }
-    {
-        self.history.world().frames(alloc, thread)
-    }
-
     /// The given classes of a program that are initialized.
     ///
     /// # Errors
@@ -132,26 +119,6 @@ impl<O: Origin> Book<O> {
             → (world_of self.now.past.world).shared.states class ≡ Initialized → is_done done class ≡ true) }
     {
         initialized_in(alloc, self.history.world(), program.given_count())
-    }
-
-    /// The steps of a stretch, and one more where there is one.
-    ///
-    /// # Errors
-    /// `AllocError` where memory is refused; nothing has changed then.
-    pub fn commit(
-        &mut self,
-        alloc: Global,
-        program: &Program,
-        thread: u32,
-        stretch: Stretch<O>,
-    ) -> Result<Commit, AllocError>
-        requires program { program.now ≡ O.program }
-        requires thread { thread < length self.old.past.world.threads }
-        ensures answer { IfOk result (λ a. IsCommit O.program self.old.past thread stretch a self.new.past) }
-        ensures goes_on { PagesGoOn self.old self.new }
-        ensures memory { OnErr result (Same self.old.past self.new.past) }
-    {
-        self.history.commit(alloc, program, thread, stretch)
     }
 
     /// The innermost frame of a thread above its highest initialization, if there is one.

@@ -1,9 +1,8 @@
 //! Classes that are known to be initialized.
 
-ghost use Rattle.std.specs.Prelude.{◌≡◌, ◌<◌, ◌≤◌, ℕ, [], true, length, IfOk};
+ghost use Rattle.std.specs.Prelude.{◌≡◌, ◌≤◌, [], length};
 ghost use Rattle.thread_runner.specs.Local.{is_done};
 
-use std::alloc::{AllocError, Global};
 use std::marker::Model;
 
 /// A set of given classes, by number.
@@ -37,32 +36,6 @@ impl DoneSet {
         ensures { result ≡ marks.items }
     {
         DoneSet { marks: Some(marks) }
-    }
-
-    /// A copy of the set.
-    ///
-    /// # Errors
-    /// `AllocError` where memory is refused.
-    pub(crate) fn copy(&self, alloc: Global) -> Result<DoneSet, AllocError>
-        ensures { IfOk result (λ s. s ≡ self.now) }
-    {
-        match &self.marks {
-            Some(marks) => match Vec::from_slice(alloc, marks.as_slice()) {
-                Ok(marks) => Ok(DoneSet { marks: Some(marks) }),
-                Err(error) => Err(error),
-            },
-            None => Ok(DoneSet::none()),
-        }
-    }
-
-    /// How many classes it tells of: those beyond are none.
-    pub(crate) fn len(&self) -> u32
-        ensures { (c : ℕ) → is_done self.now c ≡ true → c < result }
-    {
-        match &self.marks {
-            Some(marks) => marks.len() as u32,
-            None => 0,
-        }
     }
 
     /// Whether a class is a member.

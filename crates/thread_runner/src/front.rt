@@ -1,20 +1,19 @@
 //! Local instructions of one thread on its innermost frame alone.
 
-ghost use Rattle.std.specs.Prelude.{◌≡◌, ◌<◌, ◌≤◌, ◌∷◌, [], Some, None, IfOk};
+ghost use Rattle.std.specs.Prelude.{◌≡◌, ◌<◌, ◌≤◌, IfOk};
 ghost use Rattle.vm_state.specs.Segments.{frames_of};
-ghost use Rattle.semantics.specs.Steps.{Going};
-ghost use Rattle.machine.specs.Effects.{going};
 ghost use Rattle.thread_runner.specs.Fronts.{IsFrontRun, LeadsOn};
 
 use crate::done_set::DoneSet;
 use crate::origin::Origin;
 use crate::stretch::run_local;
 use crate::tools::Tools;
+use machine::kinds::Actor;
 use program::Program;
 use std::alloc::{AllocError, Global};
 use std::marker::{Model, PhantomData};
 use vm_state::frame::{Frame, FrameList, Segment};
-use vm_state::initialization::Frames;
+use vm_state::value::Maker;
 
 /// Local instructions that one thread did on its innermost frame and on the calls that it made from there. Contracts
 /// see that frame, the classes that it asked for, how many instructions it did, and the frames in the place of that
@@ -42,49 +41,33 @@ impl<O: Origin> Model for FrontStretch<O> {
         (record { from = s.from; asked = s.asked.items; count = s.count; to = frames_of s.to }) };
 }
 
-/// The frames of a thread that has this one alone.
-fn alone(alloc: Global, thread: u32, frame: Frame) -> Frames
-    ensures { result ≡ record {
-      thread = thread;
-      segment = Some (record { innermost = frame; callers = [] });
-      levels = None;
-    } }
-{
-    Frames {
-        thread,
-        segment: Some(Segment {
-            innermost: frame,
-            callers: FrameList::none(alloc),
-        }),
-        levels: None,
-    }
-}
-
-/// Runs local instructions of a thread that has this frame alone.
+/// Runs local instructions of a thread that has this frame alone, of which there is a copy.
 fn run_front<O: Origin>(
     alloc: Global,
     program: &Program,
     tools: &mut Tools<O>,
+    thread: u32,
     front: Frame,
-    start: Frames,
+    copy: Frame,
     done: &DoneSet,
 ) -> Result<Option<FrontStretch<O>>, AllocError>
     requires program { program.now ≡ O.program }
-    requires start { going start ≡ Going (front ∷ []) [] }
+    requires copy { copy ≡ front }
     ensures { IfOk result (λ made. IsFrontRun O.program done.now front made) }
 {
-    let mut frames = start;
-    match run_local(alloc, program, tools, done, &mut frames) {
+    let by = Actor {
+        thread,
+        maker: Maker::Thread(thread),
+    };
+    let mut to = Segment {
+        innermost: copy,
+        callers: FrameList::none(alloc),
+    };
+    match run_local(alloc, program, tools, by, done, &mut to) {
         Ok((count, asked)) => {
             if count == 0 {
                 return Ok(None);
             }
-            let Frames {
-                thread: _,
-                segment,
-                levels: _,
-            } = frames;
-            let Some(to) = segment else { unreachable!() };
             Ok(Some(FrontStretch {
                 from: front,
                 asked,
@@ -114,14 +97,7 @@ pub(crate) fn stretch_on<O: Origin>(
     ensures { IfOk result (λ made. IsFrontRun O.program done.now front made) }
 {
     match front.copy(alloc) {
-        Ok(copy) => run_front(
-            alloc,
-            program,
-            tools,
-            front,
-            alone(alloc, thread, copy),
-            done,
-        ),
+        Ok(copy) => run_front(alloc, program, tools, thread, front, copy, done),
         Err(error) => Err(error),
     }
 }

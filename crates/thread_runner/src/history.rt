@@ -6,7 +6,7 @@ ghost use Rattle.semantics.specs.Worlds.{Run};
 ghost use Rattle.machine.specs.Linked.{program_of};
 ghost use Rattle.init_engine.specs.Schedules.{schedule_of, AreRuns};
 ghost use Rattle.init_engine.specs.Turns.{world_of};
-ghost use Rattle.thread_runner.specs.Commits.{Fits, GoesOn, IsCommit, IsCounted, Same};
+ghost use Rattle.thread_runner.specs.Commits.{GoesOn, IsCounted, Same};
 ghost use Rattle.thread_runner.specs.Fronts.{FitsFront, IsFrontCommit};
 ghost use Rattle.thread_runner.specs.Kept.{IsKept, steps_of};
 ghost use Rattle.courses.specs.steps.StepTables.{KeepsSteps};
@@ -14,26 +14,25 @@ ghost use Rattle.thread_runner.specs.steps.Advances.{answered};
 ghost use Rattle.thread_runner.specs.steps.Alone.{CanRunOn, RunsOn};
 ghost use Rattle.thread_runner.specs.steps.Landings.{MayLand, landed};
 
-use crate::advance::{all_done, all_initialized, counted};
+use crate::advance::{all_initialized, counted};
 use crate::front::FrontStretch;
-use crate::landing::{Landing, land};
+use crate::landing::land;
 use crate::last::{Slice, run_in};
 use crate::origin::Origin;
-use crate::stretch::Stretch;
 use courses::step_table::StepTable;
 use init_engine::{Turn, World};
 use journal::runs::add_steps;
 use program::Program;
 use std::alloc::{AllocError, Global};
 use std::marker::{Model, PhantomData};
-use vm_state::initialization::Frames;
+use vm_state::frame::Segment;
 
 /// The answer to a commit.
 #[derive(Clone, Copy, Debug)]
 pub enum Commit {
     /// The journal has as many steps as it may. Nothing changes.
     Full,
-    /// The stretch does not begin where its thread is, or takes a class to be initialized that is not. Nothing changes.
+    /// The stretch does not begin where its thread is, or asked for a class that is not initialized. Nothing changes.
     Stale,
     /// A step was counted, or more.
     Moved,
@@ -156,19 +155,8 @@ impl<O: Origin> History<O> {
         self.steps >= self.limit
     }
 
-    /// Whether a stretch begins where its thread is, and the classes are initialized that it takes to be.
-    fn fits(&self, thread: u32, stretch: &Stretch<O>) -> bool
-        requires { thread < length self.now.world.threads }
-        ensures yes { result ≡ true → Fits (world_of self.now.world) thread stretch.now }
-        ensures no { result ≡ false → ¬ Fits (world_of self.now.world) thread stretch.now }
-    {
-        if !self.world.has_frames(thread, stretch.from()) {
-            return false;
-        }
-        all_done(&self.world, stretch.done())
-    }
-
-    /// Counts `count` steps that lead a thread to where it lands, and one more where there is one.
+    /// Counts `count` steps that lead a thread to these frames in the place of its innermost one, if there are some,
+    /// and one more where there is one.
     ///
     /// # Errors
     /// `AllocError` where memory is refused; nothing has changed then.
@@ -177,55 +165,27 @@ impl<O: Origin> History<O> {
         alloc: Global,
         program: &Program,
         thread: u32,
-        to: Landing,
+        top: Option<Segment>,
         count: u64,
     ) -> Result<Commit, AllocError>
         requires program { program.now ≡ O.program }
         requires thread { thread < length self.old.world.threads }
-        requires may { MayLand (world_of self.old.world) thread to count }
+        requires may { MayLand (world_of self.old.world) thread top count }
         requires most { count ≤ 1023 }
         requires below { steps_of self.old < self.old.limit }
         requires led { Run (program_of O.program) (world_of self.old.world) (replicate count thread)
-            (landed (world_of self.old.world) thread to count) }
+            (landed (world_of self.old.world) thread top) }
         ensures answer { IfOk result (λ a. IsCounted O.program self.old thread count
-            (landed (world_of self.old.world) thread to count) a self.new) }
+            (landed (world_of self.old.world) thread top) a self.new) }
         ensures goes_on { GoesOn self.old self.new }
         ensures memory { OnErr result (Same self.old self.new) }
     {
         self.journal.reserve(1)?;
-        let turn = land(alloc, &mut self.world, program, thread, to, count)?;
+        let turn = land(alloc, &mut self.world, program, thread, top)?;
         let more = counted(turn, count);
         add_some(&mut self.journal, thread, more);
         self.steps += more;
         Ok(answer_of(turn, count))
-    }
-
-    /// The steps of a stretch, and one more where there is one.
-    ///
-    /// # Errors
-    /// `AllocError` where memory is refused; nothing has changed then.
-    pub(crate) fn commit(
-        &mut self,
-        alloc: Global,
-        program: &Program,
-        thread: u32,
-        stretch: Stretch<O>,
-    ) -> Result<Commit, AllocError>
-        requires program { program.now ≡ O.program }
-        requires thread { thread < length self.old.world.threads }
-        ensures answer { IfOk result (λ a. IsCommit O.program self.old thread stretch a self.new) }
-        ensures goes_on { GoesOn self.old self.new }
-        ensures memory { OnErr result (Same self.old self.new) }
-    {
-        if self.is_full() {
-            return Ok(Commit::Full);
-        }
-        if !self.fits(thread, &stretch) {
-            return Ok(Commit::Stale);
-        }
-        let count = stretch.count();
-        let to = Landing::Whole(stretch.into_end());
-        self.count_steps(alloc, program, thread, to, count)
     }
 
     /// Whether a stretch begins at the innermost frame of its thread, and the classes that it asked for are
@@ -265,8 +225,8 @@ impl<O: Origin> History<O> {
             return Ok(Commit::Stale);
         }
         let count = stretch.count();
-        let to = Landing::Top(stretch.into_top());
-        self.count_steps(alloc, program, thread, to, count)
+        let top = Some(stretch.into_top());
+        self.count_steps(alloc, program, thread, top, count)
     }
 
     /// One step of a thread, where there is one.
@@ -288,12 +248,7 @@ impl<O: Origin> History<O> {
         if self.is_full() {
             return Ok(Commit::Full);
         }
-        let none = Frames {
-            thread,
-            segment: None,
-            levels: None,
-        };
-        self.count_steps(alloc, program, thread, Landing::Whole(none), 0)
+        self.count_steps(alloc, program, thread, None, 0)
     }
 
     /// The steps of a stretch on a front, if there is one, and one more where there is one.

@@ -1,21 +1,23 @@
 -- Where a thread stands before the last step of a commit.
-use Rattle.std.specs.Prelude.{◌≡◌, ℕ, ◌<◌, Some, slice_get}
+use Rattle.std.specs.Prelude.{◌≡◌, ℕ, ◌<◌, Option, Some, None}
 use Rattle.vm_state.specs.declared.frame.Frame.{Frame}
+use Rattle.vm_state.specs.declared.frame.Segment.{Segment}
 use Rattle.vm_state.specs.Segments.{frames_of}
 use Rattle.semantics.specs.Worlds.{World}
 use Rattle.init_engine.specs.Stacks.{front_of}
-use Rattle.init_engine.specs.Turns.{Goes}
-use Rattle.thread_runner.specs.Commits.{there}
 use Rattle.thread_runner.specs.Fronts.{with_top}
-use Rattle.thread_runner.specs.declared.landing.Landing.{Landing}
-use Rattle.thread_runner.specs.declared.landing.Landing.TheVariants.{Whole, Top}
 
--- the world where thread t landed so, after n steps
-abbrev pub landed : World → ℕ → Landing → ℕ → World
-landed w t (Whole to) n = there w t to n
-landed w t (Top top) n = with_top w t (frames_of top)
+-- the world with these frames in the place of the innermost one of thread t, if there are some
+abbrev pub landed : World → ℕ → Option Segment → World
+landed w t None = w
+landed w t (Some top) = with_top w t (frames_of top)
+
+-- where there are some, thread t has an innermost one
+abbrev pub HasFront : World → ℕ → Option Segment → Type 0
+HasFront w t None = Unit {0}
+HasFront w t (Some top) = (f : Frame) × (front_of w t ≡ Some f)
 
 -- thread t may land so after n steps
-abbrev pub MayLand : World → ℕ → Landing → ℕ → Type 0
-MayLand w t (Whole to) n = (to.thread ≡ t) × (0 < n → Goes (slice_get w.threads t))
-MayLand w t (Top top) n = (0 < n) × ((f : Frame) × (front_of w t ≡ Some f))
+abbrev pub MayLand : World → ℕ → Option Segment → ℕ → Type 0
+MayLand w t None n = n ≡ 0
+MayLand w t (Some top) n = (0 < n) × HasFront w t (Some top)

@@ -1,57 +1,34 @@
-use Rattle.std.proofs.Common.{◌≡◌, [], ◌∷◌, Bool, List, Option, Some, sym, ap, ◌∙◌, subst, rules}
-use Rattle.std.specs.Prelude.{IfOk}
+use Rattle.std.proofs.Common.{[], ◌∷◌, ap, subst}
 use Rattle.std.proofs.lemmas.Result.{IfOk-weaker}
 use Rattle.vm_state.specs.declared.frame.Frame.{Frame}
-use Rattle.vm_state.specs.declared.frame.Segment.{Segment}
-use Rattle.vm_state.specs.declared.initialization.Frames.{Frames}
-use Rattle.vm_state.specs.Segments.{frames_in}
-use Rattle.vm_state.specs.Stacks.{levels_of}
-use Rattle.semantics.specs.Steps.{Going}
-use Rattle.machine.specs.Effects.{going}
 use Rattle.machine.specs.Table.{row}
-use Rattle.thread_runner.specs.Fronts.{AreMembers}
-use Rattle.thread_runner.specs.Local.{frame_end, local_step}
+use Rattle.thread_runner.specs.Local.{frame_end}
 use Rattle.thread_runner.specs.steps.Asked.{over_asked}
-use Rattle.thread_runner.specs.steps.Ends.{IsLocalStep, IsTold}
+use Rattle.thread_runner.specs.steps.Ends.{IsTold}
 use Rattle.thread_runner.proofs.EndLemmas.{concluded_step, stopped_step, told}
 use Rattle.thread_runner.proofs.local_step.step_local.Goals as goal
 
-pub returns-in-Ok-clause-step : goal.returns-in-Ok-clause-step
-returns-in-Ok-clause-step c =
+pub returns-in-Ok : goal.returns-in-Ok
+returns-in-Ok c =
     let P = c.args.program.now in
     let asked = c.args.asked.now in
-    let ls = levels_of c.args.frames.now in
-    let new = going c.go_on.new.frames in
-    let s = c.in-Some.segment in
-    let g = c.execute.new.frame in
+    let s = c.args.segment.now in
     let f = s.innermost in
-    let is : c.args.frames.now.segment ≡ Some s = search rules in
-    subst (λ (x : Option Segment). IfOk c.go_on.result (λ step. (done : List Bool) → AreMembers asked done
-    → IsLocalStep asked done step (local_step P done (Going (frames_in x) ls)) (Going (frames_in x) ls) new))
-    (sym is)
-    (IfOk-weaker c.go_on.result _ _
-    (λ step went done members. concluded_step (frame_end P done f) f g s.callers ls asked
-    c.execute.new.store.classes.now done c.in-Ok.ensures.kept.activity c.in-Ok.conclusion step new
+    IfOk-weaker c.go_on.result _ _
+    (λ step went done members. concluded_step (frame_end P done f) f c.execute.new.frame s.callers asked
+    c.execute.new.store.classes.now done c.in-Ok.ensures.kept.activity c.in-Ok.conclusion step _
     c.in-Ok.ensures.kept.frame
     (subst (IsTold asked done (frame_end P done f)) (c.in-Ok.ensures.gives []) (told asked done members (row P f)))
-    went) c.go_on.ensures.went)
+    went) c.go_on.ensures
 
-pub returns-in-Err-clause-step : goal.returns-in-Err-clause-step
-returns-in-Err-clause-step c =
+pub returns-in-Err : goal.returns-in-Err
+returns-in-Err c =
     let P = c.args.program.now in
     let asked = c.args.asked.now in
-    let ls = levels_of c.args.frames.now in
-    let s = c.in-Some.segment in
-    let g = c.execute.new.frame in
+    let s = c.args.segment.now in
     let f = s.innermost in
-    let new = going c.stand.new.frames in
-    let is : c.args.frames.now.segment ≡ Some s = search rules in
-    subst (λ (x : Option Segment). IfOk c.stopped.result (λ step. (done : List Bool) → AreMembers asked done
-    → IsLocalStep asked done step (local_step P done (Going (frames_in x) ls)) (Going (frames_in x) ls) new))
-    (sym is)
-    (IfOk-weaker c.stopped.result _ _
-    (λ step stops done members. stopped_step asked done (frame_end P done f) f s.callers ls step
-    (over_asked asked (row P f)) new (told asked done members (row P f))
+    IfOk-weaker c.stopped.result _ _
+    (λ step stops done members. stopped_step asked done (frame_end P done f) f s.callers step
+    (over_asked asked (row P f)) _ (told asked done members (row P f))
     (stops (over_asked asked (row P f)) (c.in-Err.ensures.gives []))
-    (ap (λ (x : Frames). going x) c.stand.ensures
-    ∙ ap (λ (x : Frame). Going (x ∷ s.callers) ls) c.in-Err.ensures.kept.frame)) c.stopped.ensures)
+    (ap (λ (x : Frame). x ∷ s.callers) c.in-Err.ensures.kept.frame)) c.stopped.ensures

@@ -1,5 +1,5 @@
 use Rattle.std.proofs.Common.{◌≡◌, ◌+◌, ◌-◌, ◌≤◌, List, Bool, Some}
-use Rattle.machine.specs.Effects.{going}
+use Rattle.vm_state.specs.Segments.{frames_of}
 use Rattle.thread_runner.specs.Fronts.{AreMembers}
 use Rattle.thread_runner.specs.Local.{local_steps}
 use Rattle.thread_runner.proofs.AskedLemmas.{unasked}
@@ -9,8 +9,7 @@ abbrev pub invariant-loop-count : goal.invariant-loop-count
 invariant-loop-count g l = record {
   members : AreMembers l.asked.items l.done;
   wide : (more : List Bool) → AreMembers l.asked.items more
-      → local_steps l.program more l.count (going l.fn.frames) ≡ Some (going l.frames);
-  thread : l.frames.thread ≡ l.fn.frames.thread;
+      → local_steps l.program more l.count (frames_of l.fn.segment) ≡ Some (frames_of l.segment);
   most : l.count ≤ 1023;
 }
 

@@ -8,9 +8,16 @@ use Rattle.thread_runner.specs.Commits.{GoesOn, IsCounted}
 use Rattle.thread_runner.specs.Kept.{Past, steps_of}
 use Rattle.thread_runner.specs.steps.Advances.{counted}
 use Rattle.thread_runner.specs.steps.Landings.{MayLand, landed}
-use Rattle.thread_runner.proofs.BookLemmas.{counted_small, goes_by, goes_none, keeps, lands_none, longer, past_of}
-use Rattle.thread_runner.proofs.BookLemmas.{schedule_grown, steps_counted, turn_run}
+use Rattle.thread_runner.proofs.BookLemmas.{counted_small, goes_by, goes_none, keeps, lands_none, lands_on, longer}
+use Rattle.thread_runner.proofs.BookLemmas.{past_of, schedule_grown, steps_counted, turn_run}
 use Rattle.thread_runner.proofs.history.History.count_steps.Goals as goal
+
+pub land-requires-clause-front : goal.land-requires-clause-front
+land-requires-clause-front g c =
+    let w = world_of c.self.inside.world in
+    lands_on w c.args.thread c.args.top c.args.count
+    (subst (λ (x : Past). MayLand (world_of x.world) c.args.thread c.args.top c.args.count) (sym c.self.view_is)
+    c.requires.may)
 
 pub returns-in_err-turn-clause-goes_on : goal.returns-in_err-turn-clause-goes_on
 returns-in_err-turn-clause-goes_on g c =
@@ -32,10 +39,10 @@ invariant_of-self-2 g c =
     let n = c.args.count in
     let h = past_of c.self.inside.world c.self.inside.journal.items c.self.inside.limit in
     let made = counted c.in_ok-turn.turn n in
-    let at = landed (world_of h.world) t c.args.to n in
+    let at = landed (world_of h.world) t c.args.top in
     let led : Run (program_of P) (world_of h.world) (replicate n t) at =
     subst (λ (x : Past). Run (program_of P) (world_of x.world) (replicate n t)
-    (landed (world_of x.world) t c.args.to n)) (sym c.self.view_is) c.requires.led in
+    (landed (world_of x.world) t c.args.top)) (sym c.self.view_is) c.requires.led in
     let schedule = schedule_grown h.journal c.reserve.new.self.items c.add_some.new.runs.items t c.counted-more.result
     made c.add_some.ensures.schedule c.reserve.ensures.items c.counted-more.ensures in
     let below : steps_of h < h.limit =
@@ -61,15 +68,15 @@ returns-clause-answer g c =
     let turn = c.in_ok-turn.turn in
     let h = past_of c.self.inside.world c.self.inside.journal.items c.self.inside.limit in
     let new = past_of c.land.new.world c.add_some.new.runs.items c.self.inside.limit in
-    let at = landed (world_of h.world) t c.args.to n in
-    let may : MayLand (world_of h.world) t c.args.to n =
-    subst (λ (x : Past). MayLand (world_of x.world) t c.args.to n) (sym c.self.view_is) c.requires.may in
-    let done = steps_counted P h new t n at turn (lands_none (world_of h.world) t c.args.to n may)
+    let at = landed (world_of h.world) t c.args.top in
+    let may : MayLand (world_of h.world) t c.args.top n =
+    subst (λ (x : Past). MayLand (world_of x.world) t c.args.top n) (sym c.self.view_is) c.requires.may in
+    let done = steps_counted P h new t n at turn (lands_none (world_of h.world) t c.args.top n may)
     (subst (λ (Q : Tables). IsTurn (program_of Q) at t turn (world_of c.land.new.world)) c.requires.program
     c.in_ok-turn.ensures.far)
     (schedule_grown h.journal c.reserve.new.self.items c.add_some.new.runs.items t c.counted-more.result
     (counted turn n) c.add_some.ensures.schedule c.reserve.ensures.items c.counted-more.ensures)
     (λ z. c.add_some.ensures.none (c.counted-more.ensures ∙ z) ∙ c.reserve.ensures.items) refl in
-    subst (λ (x : Past). IsCounted P x t n (landed (world_of x.world) t c.args.to n) c.answer_of.result new)
+    subst (λ (x : Past). IsCounted P x t n (landed (world_of x.world) t c.args.top) c.answer_of.result new)
     c.self.view_is
     (subst (λ (a : Commit). IsCounted P h t n at a new) (sym c.answer_of.ensures) done)
