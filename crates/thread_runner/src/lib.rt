@@ -24,6 +24,7 @@ mod sending;
 pub mod stretch;
 mod tools;
 mod top;
+mod walk;
 mod worker;
 
 pub use answer::{Ended, RunFault};

@@ -1,8 +1,9 @@
-use Rattle.std.proofs.Common.{◌≡◌, ◌+◌, inr, true, false, sym, ap, ◌∙◌}
+use Rattle.std.proofs.Common.{◌≡◌, ◌+◌, ◌++◌, ◌∷◌, [], ◌⊎◌, inr, Bool, true, false, List, Some, None, sym, ap, ◌∙◌}
 use Rattle.std.proofs.Common.{arith}
 use Rattle.std.proofs.lemmas.List.Elements.{All-push}
 use Rattle.machine.specs.Effects.{going}
-use Rattle.thread_runner.specs.Local.{is_done, local_step}
+use Rattle.thread_runner.specs.Fronts.{AreMembers}
+use Rattle.thread_runner.specs.Local.{is_done, local_step, local_steps}
 use Rattle.thread_runner.proofs.AskedLemmas.{asks_less, members_before}
 use Rattle.thread_runner.proofs.LocalLemmas.{stood_still, walked_on, went_on}
 use Rattle.thread_runner.proofs.stretch.run_local.Goals as goal
