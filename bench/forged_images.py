@@ -8,8 +8,7 @@ Each is near the worst for a reader by its bytes: objects of a class with 60,000
 60,000 others; distinct strings that no class file has; arrays of classes that are neither given nor built in, by one
 name and by distinct ones; an array of ints. Then, in both versions and in three sizes, objects each reached through the
 one before, by numbers in a row, backwards or far apart, and objects of which none is reached, which version 2 refuses
-(Idle) and of version 1 are left out. Last, a few objects whose numbers are far apart, up to the last one of 2^32 - 1,
-and the strings again with a wrong digest, for which they are not looked at.
+(Idle) and of version 1 are left out. Last, a few objects whose numbers are far apart, up to the last one of 2^32 - 1.
 It prints the version, the bytes, and the seconds and the most memory of both commands, and ends in 1 where an answer is
 not the one that the image has to get.
 """
@@ -97,11 +96,6 @@ def all_of(maker, objects):
     return region(2, reference(0, maker), [array(OBJECTS, len(objects), links), *objects])
 
 
-def of_strings():
-    strings = b"".join(b"\x03" + u2(8) + f"{k:08x}".encode("utf-16-be") for k in range(1_600_000))
-    return image(2, [class_file(b"C", OBJECT)], [region(2, reference(0), [array(OBJECTS, 1_600_000, strings)])])
-
-
 def worst():
     """Images of version 2 that are near the worst by their bytes."""
     yield "100,000 objects of a class of 60,000 fields", image(
@@ -111,7 +105,9 @@ def worst():
     yield "100,000 objects of a class below 59,999 others", image(
         2, chain, [b"\x00"] * 59_999 + [all_of(59_999, [instance(names[-1])] * 100_000)])
     alone = [class_file(b"C", OBJECT)]
-    yield "1,600,000 distinct strings", of_strings()
+    strings = b"".join(b"\x03" + u2(8) + f"{k:08x}".encode("utf-16-be") for k in range(1_600_000))
+    yield "1,600,000 distinct strings", image(
+        2, alone, [region(2, reference(0), [array(OBJECTS, 1_600_000, strings)])])
     yield "160,000 arrays of 200 dimensions of one unknown class", image(
         2, alone, [all_of(0, [array(b"[" * 200 + b"Lp/Foo;", 0)] * 160_000)])
     yield "640,000 arrays of distinct unknown classes", image(
@@ -145,7 +141,6 @@ def images():
         yield f"{count:,} objects, none reached", 1, unreached(1, count), None
         yield f"{count:,} objects, none reached", 2, unreached(2, count), "Idle C"
     yield "three objects, the last of number 2^32 - 2", 2, chained(2, [2**31, 2**32 - 2, 0]), None
-    yield "1,600,000 distinct strings, and a wrong digest", 2, of_strings()[:-32] + bytes(32), "Digest"
 
 
 def measured(words, wanted):

@@ -49,7 +49,7 @@ use Rattle.machine.specs.Table.{local_row, call_row, return_row, operation_row, 
 use Rattle.machine.specs.Table.{active_row, row}
 use Rattle.use_graph.specs.Uses.{CallsLeftOut, itself, calling, pc_of, pc_at}
 use Rattle.use_graph.specs.declared.feature.Feature.TheVariants as features
-use Rattle.audit.specs.declared.places.EndPlace.{EndPlace}
+use Rattle.audit.specs.declared.places.Place.{Place}
 use Rattle.audit.specs.Reach.{Method, MayReach}
 use Rattle.audit.specs.Places.{lack_of, EndsAt}
 use Rattle.audit.specs.Runs.{IsReachedActivity}
@@ -209,7 +209,7 @@ module _ (P : Tables) (entries : List ℕ) (sh : SharedState) (f : Frame) where
         → IsEnd P entries sh f kind
     place_told o kind at ends =
         let (pc, is) = operation_pc P d k f.place o at in
-        let place : EndPlace = record { class = d; index = k; pc = Some pc; kind = kind } in
+        let place : Place = record { class = d; index = k; pc = Some pc; kind = kind } in
         told place (may, f.place, is, ends) refl
         (subst (λ (a : Activity). StandsAt P a f.place place) (sym here) (refl, refl, pc, refl, is))
 
@@ -242,7 +242,7 @@ module _ (P : Tables) (entries : List ℕ) (sh : SharedState) (f : Frame) where
     start_told : (m : ℕ) (kind : FaultKind) → main_in P c ≡ Some m → lack_of (implementation_at P c m) ≡ Some kind
         → IsEnd P entries sh f kind
     start_told m kind main so =
-        let place : EndPlace = record { class = c; index = m; pc = None; kind = kind } in
+        let place : Place = record { class = c; index = m; pc = None; kind = kind } in
         told place (among, main, so) refl
         (subst (λ (a : Activity). StandsAt P a f.place place) (sym here) (refl, main, refl))
 

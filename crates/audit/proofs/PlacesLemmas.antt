@@ -16,7 +16,7 @@ use Rattle.use_graph.specs.Uses.{IsDeclared}
 use Rattle.use_graph.specs.steps.Bodies.{IsUseGraph, AreBodyUses}
 use Rattle.use_graph.specs.steps.Deeds.{HoldsOfOne}
 use Rattle.use_graph.proofs.ListLemmas.{one_of}
-use Rattle.audit.specs.declared.places.EndPlace.{EndPlace}
+use Rattle.audit.specs.declared.places.Place.{Place}
 use Rattle.audit.specs.Reach.{Method, MayReach, main, called, initializer}
 use Rattle.audit.specs.Places.{lack_of, IsLackingStart, IsReachedEnd, IsPlace, AreAllPlaces}
 use Rattle.audit.specs.steps.Reaching.{AreReachedMethods, IsToldPlace, IsStartPlace, IsPlaceOf, AreBelow}
@@ -43,13 +43,13 @@ pub nothing_added : {X : Type 0} (old : List X) (A : X → Type 0) → ((y : X) 
     → Contains old y ↔ (Contains old y ⊎ A y)
 nothing_added old A none y = (λ was. inl was, λ p. elim p [ inl was ↦ was | inr a ↦ absurd (none y a) ])
 
-pub same_place : (p q : EndPlace) → p.class ≡ q.class → p.index ≡ q.index → p.pc ≡ q.pc → p.kind ≡ q.kind → p ≡ q
+pub same_place : (p q : Place) → p.class ≡ q.class → p.index ≡ q.index → p.pc ≡ q.pc → p.kind ≡ q.kind → p ≡ q
 same_place p q a b c d =
-    ap (λ (x : ℕ). (let r : EndPlace = record { class = x; index = p.index; pc = p.pc; kind = p.kind } in r)) a
-    ∙ (ap (λ (x : ℕ). (let r : EndPlace = record { class = q.class; index = x; pc = p.pc; kind = p.kind } in r)) b
-    ∙ (ap (λ (x : Option ℕ).
-    (let r : EndPlace = record { class = q.class; index = q.index; pc = x; kind = p.kind } in r)) c
-    ∙ ap (λ (x : FaultKind). (let r : EndPlace = record { class = q.class; index = q.index; pc = q.pc; kind = x } in r))
+    ap (λ (x : ℕ). (let r : Place = record { class = x; index = p.index; pc = p.pc; kind = p.kind } in r)) a
+    ∙ (ap (λ (x : ℕ). (let r : Place = record { class = q.class; index = x; pc = p.pc; kind = p.kind } in r)) b
+    ∙ (ap (λ (x : Option ℕ). (let r : Place = record { class = q.class; index = q.index; pc = x; kind = p.kind } in r))
+    c
+    ∙ ap (λ (x : FaultKind). (let r : Place = record { class = q.class; index = q.index; pc = q.pc; kind = x } in r))
     d))
 
 -- what is added twice
@@ -83,7 +83,7 @@ module _ (P : Tables) (uses : UseGraph) (whole : IsUseGraph P uses) (entries : L
   reached_declared d k (called runs goes there) = there
   reached_declared d k (initializer begins has there) = there
 
-  place_declared : (place : EndPlace) → IsPlace P entries place → IsDeclared P place.class place.index
+  place_declared : (place : Place) → IsPlace P entries place → IsDeclared P place.class place.index
   place_declared place = by place.pc
     where
       by : (o : Option ℕ) → MatchOption o (IsLackingStart P entries place.class place.index place.kind)
@@ -92,7 +92,7 @@ module _ (P : Tables) (uses : UseGraph) (whole : IsUseGraph P uses) (entries : L
       by (Some pc) is = reached_declared place.class place.index is.0
 
   -- a method that has a place may be reached
-  place_reached : (place : EndPlace) → IsPlace P entries place → MayReach P entries (Method place.class place.index)
+  place_reached : (place : Place) → IsPlace P entries place → MayReach P entries (Method place.class place.index)
   place_reached place is = by place.pc is
     where
       by : (o : Option ℕ) → MatchOption o (IsLackingStart P entries place.class place.index place.kind)
@@ -104,13 +104,13 @@ module _ (P : Tables) (uses : UseGraph) (whole : IsUseGraph P uses) (entries : L
   -- ---- one method
 
   -- nothing is added where nothing is a place
-  pub none_added : (n : ℕ) (old : List EndPlace) → ((p : EndPlace) → IsPlaceOf P entries uses.methods n p → ⊥)
-      → (p : EndPlace) → Contains old p ↔ (Contains old p ⊎ IsPlaceOf P entries uses.methods n p)
+  pub none_added : (n : ℕ) (old : List Place) → ((p : Place) → IsPlaceOf P entries uses.methods n p → ⊥)
+      → (p : Place) → Contains old p ↔ (Contains old p ⊎ IsPlaceOf P entries uses.methods n p)
   none_added n old none p = (λ was. inl was, λ h. elim h [ inl was ↦ was | inr is ↦ absurd (none p is) ])
 
-  pub unreached : (reached : List ℕ) (n : ℕ) (old : List EndPlace)
+  pub unreached : (reached : List ℕ) (n : ℕ) (old : List Place)
       → AreReachedMethods P uses.methods entries reached → (Contains reached n → ⊥)
-      → (p : EndPlace) → Contains old p ↔ (Contains old p ⊎ IsPlaceOf P entries uses.methods n p)
+      → (p : Place) → Contains old p ↔ (Contains old p ⊎ IsPlaceOf P entries uses.methods n p)
   unreached reached n old are none = none_added n old (λ p (m, at, class, index, is).
       none ((are n m at).1 (subst (λ (c : ℕ). MayReach P entries (Method c m.index)) class
       (subst (λ (k : ℕ). MayReach P entries (Method p.class k)) index (place_reached p is)))))
@@ -125,7 +125,7 @@ module _ (P : Tables) (uses : UseGraph) (whole : IsUseGraph P uses) (entries : L
   module _ (reached : List ℕ) (are : AreReachedMethods P uses.methods entries reached) (n : ℕ) (m : DeclaredMember)
       (at : slice_get uses.methods n ≡ Some m) (body : BodyUses) (here : slice_get uses.bodies.items n ≡ Some body)
       (among : Contains reached n) where
-    abbrev IsAdded : EndPlace → Type 0
+    abbrev IsAdded : Place → Type 0
     IsAdded p = IsStartPlace P entries m p ⊎ HoldsOfOne (IsToldPlace m) body.told.items p
 
     told_is : AreBodyUses P m body
@@ -135,7 +135,7 @@ module _ (P : Tables) (uses : UseGraph) (whole : IsUseGraph P uses) (entries : L
         → IsLackingStart P entries c k kind
     moved c k kind class index is = rw (class, index) is
 
-    start_place : (p : EndPlace) → IsStartPlace P entries m p → IsPlaceOf P entries uses.methods n p
+    start_place : (p : Place) → IsStartPlace P entries m p → IsPlaceOf P entries uses.methods n p
     start_place p (class, index, none, lacks) = (
       m,
       at,
@@ -146,7 +146,7 @@ module _ (P : Tables) (uses : UseGraph) (whole : IsUseGraph P uses) (entries : L
           (moved p.class p.index p.kind class index lacks),
     )
 
-    told_place : (p : EndPlace) (t : Told) → Contains body.told.items t → IsToldPlace m t p
+    told_place : (p : Place) (t : Told) → Contains body.told.items t → IsToldPlace m t p
         → IsPlaceOf P entries uses.methods n p
     told_place p t is_told (class, index, some, ends) =
         let (place, pc, told) = (told_is.told t).0 is_told in
@@ -161,7 +161,7 @@ module _ (P : Tables) (uses : UseGraph) (whole : IsUseGraph P uses) (entries : L
               (rw (class, index) end),
         )
 
-    place_added : (p : EndPlace) → p.class ≡ m.class → p.index ≡ m.index → IsPlace P entries p → IsAdded p
+    place_added : (p : Place) → p.class ≡ m.class → p.index ≡ m.index → IsPlace P entries p → IsAdded p
     place_added p class index is = by p.pc refl is
       where
         by : (o : Option ℕ) → p.pc ≡ o
@@ -173,8 +173,8 @@ module _ (P : Tables) (uses : UseGraph) (whole : IsUseGraph P uses) (entries : L
             let item : Told = record { pc = pc; feature = t } in
             inr (item, (told_is.told item).1 (place, at_pc, told), (class, index, some, end))
 
-    pub added : (old new : List EndPlace) → ((p : EndPlace) → Contains new p ↔ (Contains old p ⊎ IsAdded p))
-        → (p : EndPlace) → Contains new p ↔ (Contains old p ⊎ IsPlaceOf P entries uses.methods n p)
+    pub added : (old new : List Place) → ((p : Place) → Contains new p ↔ (Contains old p ⊎ IsAdded p))
+        → (p : Place) → Contains new p ↔ (Contains old p ⊎ IsPlaceOf P entries uses.methods n p)
     added old new step p = (
       λ h. elim ((step p).0 h) [
         | inl was ↦ inl was
@@ -194,17 +194,17 @@ module _ (P : Tables) (uses : UseGraph) (whole : IsUseGraph P uses) (entries : L
 
   -- ---- all methods
 
-  pub below_none : (places : List EndPlace) → places ≡ [] → AreBelow P entries uses.methods 0 places
+  pub below_none : (places : List Place) → places ≡ [] → AreBelow P entries uses.methods 0 places
   below_none places is p = (
-    λ h. absurd (none_among p (subst (λ (l : List EndPlace). Contains l p) is h)),
+    λ h. absurd (none_among p (subst (λ (l : List Place). Contains l p) is h)),
     λ (n, less, place). absurd (omega arith),
   )
 
   last_or_below : (n limit : ℕ) → n < limit + 1 → (n < limit) ⊎ (n ≡ limit)
   last_or_below n limit less = grind arith
 
-  pub below_more : (limit : ℕ) (old new : List EndPlace) → AreBelow P entries uses.methods limit old
-      → ((p : EndPlace) → Contains new p ↔ (Contains old p ⊎ IsPlaceOf P entries uses.methods limit p))
+  pub below_more : (limit : ℕ) (old new : List Place) → AreBelow P entries uses.methods limit old
+      → ((p : Place) → Contains new p ↔ (Contains old p ⊎ IsPlaceOf P entries uses.methods limit p))
       → AreBelow P entries uses.methods (limit + 1) new
   below_more limit old new before step p = (
     λ h. elim ((step p).0 h) [
@@ -218,7 +218,7 @@ module _ (P : Tables) (uses : UseGraph) (whole : IsUseGraph P uses) (entries : L
     ],
   )
 
-  pub below_all : (limit : ℕ) (places : List EndPlace) → length uses.methods ≤ limit
+  pub below_all : (limit : ℕ) (places : List Place) → length uses.methods ≤ limit
       → AreBelow P entries uses.methods limit places
       → AreAllPlaces P entries places
   below_all limit places all are p = (

@@ -38,7 +38,7 @@ use Rattle.machine.specs.Linked.{program_of}
 use Rattle.machine.specs.ObjectParts.{class_of_nameless}
 use Rattle.machine.specs.Operations.{Operation, OnCall, OnObject, operation_at}
 use Rattle.use_graph.specs.Uses.{pc_at}
-use Rattle.audit.specs.declared.places.EndPlace.{EndPlace}
+use Rattle.audit.specs.declared.places.Place.{Place}
 use Rattle.audit.specs.Places.{IsPlace}
 use Rattle.audit.specs.Runs.{StartsFrom}
 
@@ -115,7 +115,7 @@ pub data IsByOperands (P : Tables) (sh : SharedState) (f : Frame) (o : Operation
 -- ---- where a thread ends
 
 -- the place of a frame's activity
-abbrev pub StandsAt : Tables → Activity → ℕ → EndPlace → Type 0
+abbrev pub StandsAt : Tables → Activity → ℕ → Place → Type 0
 StandsAt P (activities.Start c) at place =
     (place.class ≡ c) × (main_in P c ≡ Some place.index) × (place.pc ≡ None)
 StandsAt P (activities.Method d k) at place =
@@ -123,7 +123,7 @@ StandsAt P (activities.Method d k) at place =
 
 -- It is one of the places that are told, or an instruction that ends its thread by its operands.
 pub data IsEnd (P : Tables) (entries : List ℕ) (sh : SharedState) (f : Frame) (kind : FaultKind) : Type 0 where
-  told : (place : EndPlace) → IsPlace P entries place → place.kind ≡ kind → StandsAt P f.activity f.place place
+  told : (place : Place) → IsPlace P entries place → place.kind ≡ kind → StandsAt P f.activity f.place place
       → IsEnd P entries sh f kind
   by_operands : {d k : ℕ} {o : Operation} → f.activity ≡ activities.Method d k
       → operation_at P d k f.place ≡ Some o → IsByOperands P sh f o kind → IsEnd P entries sh f kind

@@ -9,7 +9,7 @@ use Rattle.program.specs.Tables.{Tables, implementation_at, main_in}
 use Rattle.use_graph.specs.declared.feature.Feature.{Feature}
 use Rattle.use_graph.specs.declared.feature.Feature.TheVariants as features
 use Rattle.use_graph.specs.Uses.{IsTold, pc_at}
-use Rattle.audit.specs.declared.places.EndPlace.{EndPlace}
+use Rattle.audit.specs.declared.places.Place.{Place}
 use Rattle.audit.specs.Reach.{Method, MayReach}
 
 -- how an instruction ends its thread of which this is told
@@ -41,11 +41,11 @@ IsReachedEnd P entries d k kind pc =
     MayReach P entries (Method d k) × (place : ℕ) × (pc_at P d k place ≡ Some pc) × EndsAt P d k place kind
 
 -- a thread of these entries may end there
-abbrev pub IsPlace : Tables → List ℕ → EndPlace → Type 0
+abbrev pub IsPlace : Tables → List ℕ → Place → Type 0
 IsPlace P entries place = MatchOption place.pc
     (IsLackingStart P entries place.class place.index place.kind)
     (IsReachedEnd P entries place.class place.index place.kind)
 
 -- all places where threads of these entries may end
-abbrev pub AreAllPlaces : Tables → List ℕ → List EndPlace → Type 0
-AreAllPlaces P entries places = (place : EndPlace) → Contains places place ↔ IsPlace P entries place
+abbrev pub AreAllPlaces : Tables → List ℕ → List Place → Type 0
+AreAllPlaces P entries places = (place : Place) → Contains places place ↔ IsPlace P entries place

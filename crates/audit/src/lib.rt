@@ -8,4 +8,4 @@ mod reaching;
 mod starts;
 
 pub use lines::audit_text;
-pub use places::{EndPlace, audit};
+pub use places::{Place, audit};

@@ -4,7 +4,7 @@ ghost use Rattle.std.specs.Prelude.{◌≡◌, ◌++◌, IfOk, OnOk};
 ghost use Rattle.std.specs.String.{string_bytes};
 ghost use Rattle.audit.specs.Texts.{kind_text, where_text, line_text, audit_text};
 
-use crate::places::EndPlace;
+use crate::places::Place;
 use classfile::ClassFile;
 use instruction_text::{method_text, place_text};
 use program::Program;
@@ -23,7 +23,7 @@ fn kind_text(kind: FaultKind) -> &'static str
 }
 
 /// Where a thread ends: the method, and the instruction if it is one.
-fn where_text(alloc: Global, file: &ClassFile, place: &EndPlace) -> Result<String, AllocError>
+fn where_text(alloc: Global, file: &ClassFile, place: &Place) -> Result<String, AllocError>
     ensures { IfOk result (λ text. string_bytes text ≡ where_text file.now place.now.index place.now.pc) }
 {
     match place.pc {
@@ -35,7 +35,7 @@ fn where_text(alloc: Global, file: &ClassFile, place: &EndPlace) -> Result<Strin
 fn add_line(
     alloc: Global,
     program: &Program,
-    place: &EndPlace,
+    place: &Place,
     text: &mut String,
 ) -> Result<(), AllocError>
     ensures { OnOk result (string_bytes text.new
@@ -56,11 +56,7 @@ fn add_line(
 /// # Errors
 /// Where memory runs out.
 #[tactic(auto, unfolding(crate::specs::Texts::audit_text))]
-pub fn audit_text(
-    alloc: Global,
-    program: &Program,
-    places: &[EndPlace],
-) -> Result<String, AllocError>
+pub fn audit_text(alloc: Global, program: &Program, places: &[Place]) -> Result<String, AllocError>
     ensures { IfOk result (λ text. string_bytes text ≡ audit_text program.now.family places.now) }
 {
     let mut text = String::new(alloc);

@@ -4,7 +4,7 @@ ghost use Rattle.std.specs.Prelude.{◌≡◌, ◌↔◌, ◌⊎◌, [], IfOk, O
 ghost use Rattle.std.specs.List.{Contains};
 ghost use Rattle.use_graph.specs.steps.Bodies.{IsUseGraph};
 ghost use Rattle.use_graph.specs.steps.Deeds.{HoldsOfOne};
-ghost use Rattle.audit.specs.declared.places.EndPlace.{EndPlace as Held};
+ghost use Rattle.audit.specs.declared.places.Place.{Place as Held};
 ghost use Rattle.audit.specs.Places.{end_of, AreAllPlaces};
 ghost use Rattle.audit.specs.steps.Reaching.{AreReachedMethods, IsToldPlace, IsStartPlace, IsPlaceOf};
 
@@ -21,7 +21,7 @@ use vm_state::ends::FaultKind;
 
 /// Where a thread may come, and ends so.
 #[derive(Clone, Copy)]
-pub struct EndPlace {
+pub struct Place {
     /// The number of the class that declares the method.
     pub class: u32,
     /// The place of the method among those of its class.
@@ -45,13 +45,13 @@ fn end_of(feature: Feature) -> Option<FaultKind>
 }
 
 /// Adds the place of an instruction of a method, if it ends its thread.
-fn add_one(method: DeclaredMember, told: Told, places: &mut Vec<EndPlace>) -> Result<(), AllocError>
+fn add_one(method: DeclaredMember, told: Told, places: &mut Vec<Place>) -> Result<(), AllocError>
     ensures { OnOk result ((p : Held) → Contains places.new.items p
         ↔ (Contains places.old.items p ⊎ IsToldPlace method told p)) }
 {
     match end_of(told.feature) {
         Some(kind) => {
-            places.push(EndPlace {
+            places.push(Place {
                 class: method.class,
                 index: method.index,
                 pc: Some(told.pc),
@@ -67,7 +67,7 @@ fn add_one(method: DeclaredMember, told: Told, places: &mut Vec<EndPlace>) -> Re
 fn add_told(
     method: DeclaredMember,
     told: &[Told],
-    places: &mut Vec<EndPlace>,
+    places: &mut Vec<Place>,
 ) -> Result<(), AllocError>
     ensures { OnOk result ((p : Held) → Contains places.new.items p
         ↔ (Contains places.old.items p ⊎ HoldsOfOne (IsToldPlace method) told.now p)) }
@@ -83,14 +83,14 @@ fn add_start(
     program: &Program,
     entries: &[u32],
     method: DeclaredMember,
-    places: &mut Vec<EndPlace>,
+    places: &mut Vec<Place>,
 ) -> Result<(), AllocError>
     ensures { OnOk result ((p : Held) → Contains places.new.items p
         ↔ (Contains places.old.items p ⊎ IsStartPlace program.now entries.now method p)) }
 {
     match start_lack(program, entries, method) {
         Some(kind) => {
-            places.push(EndPlace {
+            places.push(Place {
                 class: method.class,
                 index: method.index,
                 pc: None,
@@ -108,7 +108,7 @@ fn add_reached(
     entries: &[u32],
     method: DeclaredMember,
     told: &[Told],
-    places: &mut Vec<EndPlace>,
+    places: &mut Vec<Place>,
 ) -> Result<(), AllocError>
     ensures { OnOk result ((p : Held) → Contains places.new.items p
         ↔ (Contains places.old.items p ⊎ (IsStartPlace program.now entries.now method p
@@ -126,7 +126,7 @@ fn add_method(
     entries: &[u32],
     reached: &Visited,
     number: usize,
-    places: &mut Vec<EndPlace>,
+    places: &mut Vec<Place>,
 ) -> Result<(), AllocError>
     requires uses { IsUseGraph program.now uses.now }
     requires reached { AreReachedMethods program.now uses.now.methods entries.now reached.now.items }
@@ -154,7 +154,7 @@ fn add_all(
     uses: &UseGraph,
     entries: &[u32],
     reached: &Visited,
-    places: &mut Vec<EndPlace>,
+    places: &mut Vec<Place>,
 ) -> Result<(), AllocError>
     requires none { places.old.items ≡ [] }
     requires uses { IsUseGraph program.now uses.now }
@@ -173,7 +173,7 @@ fn add_all(
 ///
 /// # Errors
 /// Where memory runs out.
-pub fn audit(alloc: Global, program: &Program, entries: &[u32]) -> Result<Vec<EndPlace>, AllocError>
+pub fn audit(alloc: Global, program: &Program, entries: &[u32]) -> Result<Vec<Place>, AllocError>
     ensures { IfOk result (λ places. AreAllPlaces program.now entries.now places.items) }
 {
     let uses = UseGraph::of_program(alloc, program)?;

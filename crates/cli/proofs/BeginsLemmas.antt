@@ -8,7 +8,7 @@ use Rattle.command_line.specs.Requests.{texts}
 use Rattle.command_line.specs.declared.request.Lazy.{Lazy}
 use Rattle.command_line.specs.declared.request.Request.TheVariants as requests
 use Rattle.command_line.specs.declared.request.Run.{Run}
-use Rattle.cli.specs.declared.running.CutShort.TheVariants.{Memory}
+use Rattle.cli.specs.declared.running.RunFault.TheVariants.{Memory}
 use Rattle.cli.specs.declared.status.Status.{Status}
 use Rattle.cli.specs.Begins.{IsBegun, IsBegunFromImage}
 use Rattle.cli.specs.Done.{HasEndedByTurns, HasEndedWithJournal, HasRunImage, HasRunLazily}

@@ -17,7 +17,7 @@ use Rattle.command_line.specs.declared.request.Request.TheVariants as requests
 use Rattle.cli.specs.declared.by_threads.ImageSeen.{ImageSeen}
 use Rattle.cli.specs.declared.by_threads.Journaled.{Journaled}
 use Rattle.cli.specs.declared.fault.Refusal.{Refusal}
-use Rattle.cli.specs.declared.running.CutShort.TheVariants.{Device, Memory}
+use Rattle.cli.specs.declared.running.RunFault.TheVariants.{Device, Memory}
 use Rattle.cli.specs.declared.status.Status.{Status}
 use Rattle.cli.specs.declared.status.Status.TheVariants.{Done, Ended, Limit, Refused, Words}
 use Rattle.cli.specs.Done.{HasEndedWithJournal, HasReplayed, IsWritten}

@@ -22,8 +22,8 @@ use Rattle.init_engine.proofs.RoundLemmas.{run_so_far}
 use Rattle.thread_runner.proofs.SendingLemmas.{text_join}
 use Rattle.cli.specs.Done.{HasEndedByTurns}
 use Rattle.cli.specs.declared.running.Ran.{Ran}
-use Rattle.cli.specs.declared.running.CutShort.{CutShort}
-use Rattle.cli.specs.declared.running.CutShort.TheVariants.{Memory, Device}
+use Rattle.cli.specs.declared.running.RunFault.{RunFault}
+use Rattle.cli.specs.declared.running.RunFault.TheVariants.{Memory, Device}
 use Rattle.cli.specs.declared.status.Status.{Status}
 use Rattle.cli.specs.Running.{HasRun, IsCutShort, IsStanding, SendsTo}
 use Rattle.cli.specs.Status.{run_status}
@@ -134,7 +134,7 @@ cut_by_device P first limit sent t before now after under got (count, within, fu
 
 -- the rest of the prints did not go out whole
 pub cut_in_sending : (P : Tables) (first : World) (limit sent : ℕ) (t : Midway) (before now after : Option (List ℕ))
-    (fault : CutShort) → IsUnderWay (program_of P) first limit t → sent ≤ length t.world.printed →
+    (fault : RunFault) → IsUnderWay (program_of P) first limit t → sent ≤ length t.world.printed →
     Appends before now (text_of (take sent t.world.printed)) →
     SendsTo {A = ℕ} now after (text_of (drop sent t.world.printed)) (Err fault) →
     IsCutShort P first before after fault

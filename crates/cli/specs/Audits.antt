@@ -4,7 +4,7 @@ use Rattle.std.specs.Io.KnownBytes.{Appends}
 use Rattle.program.specs.Tables.{Tables}
 use Rattle.audit.specs.Places.{AreAllPlaces}
 use Rattle.audit.specs.Texts.{audit_text}
-use Rattle.audit.specs.declared.places.EndPlace.{EndPlace}
+use Rattle.audit.specs.declared.places.Place.{Place}
 use Rattle.init_engine.specs.Starts.{StandForEntries}
 use Rattle.command_line.specs.Requests.{texts}
 use Rattle.command_line.specs.declared.request.Audit.{Audit}
@@ -16,7 +16,7 @@ use Rattle.cli.specs.declared.status.Status.{Status}
 
 -- The text has a line for each place where threads of some entries may end, and it is said whether there is none.
 pub record IsAuditFrom (P : Tables) (classes text : List ℕ) (is_clean : Bool) : Type 0 where
-  pub places : List EndPlace
+  pub places : List Place
   pub all : AreAllPlaces P classes places
   pub lines : text ≡ audit_text P.family places
   pub clean : IsTrue is_clean ↔ (places ≡ [])

@@ -12,8 +12,8 @@ use Rattle.command_line.specs.declared.request.Request.{Request}
 use Rattle.cli.specs.Begins.{IsFirst}
 use Rattle.cli.specs.Files.{Contents}
 use Rattle.cli.specs.declared.running.Ran.{Ran}
-use Rattle.cli.specs.declared.running.CutShort.{CutShort}
-use Rattle.cli.specs.declared.running.CutShort.TheVariants.{Memory, Device}
+use Rattle.cli.specs.declared.running.RunFault.{RunFault}
+use Rattle.cli.specs.declared.running.RunFault.TheVariants.{Memory, Device}
 use Rattle.cli.specs.declared.status.Status.{Status}
 use Rattle.cli.specs.declared.status.Status.TheVariants.{Refused}
 
@@ -33,27 +33,27 @@ pub record HasRun (P : Tables) (first : World) (limit : ℕ) (before after : Opt
 
 -- What has gone out of some prints where a run was cut short: the first of them, whole, where memory was refused, and
 -- the first bytes of their text where the sink failed.
-abbrev pub HaveGoneOut : List Print → Option (List ℕ) → Option (List ℕ) → CutShort → Type 0
+abbrev pub HaveGoneOut : List Print → Option (List ℕ) → Option (List ℕ) → RunFault → Type 0
 HaveGoneOut printed before after Memory =
     (count : ℕ) × (count ≤ length printed) × Appends before after (text_of (take count printed))
 HaveGoneOut printed before after Device =
     (count : ℕ) × (count ≤ length (text_of printed)) × Appends before after (take count (text_of printed))
 
 -- A run from a world was cut short at a world of whose prints so much has gone out.
-pub record IsCutShort (P : Tables) (first : World) (before after : Option (List ℕ)) (fault : CutShort) : Type 0 where
+pub record IsCutShort (P : Tables) (first : World) (before after : Option (List ℕ)) (fault : RunFault) : Type 0 where
   pub schedule : List ℕ
   pub last : World
   pub run : Reaches (program_of P) first schedule last
   pub sent : HaveGoneOut last.shared.printed before after fault
 
 -- what a call sent of a text: all of it, nothing for want of memory, or its first bytes where the sink failed
-abbrev pub SendsTo : {A : Type 0} → Option (List ℕ) → Option (List ℕ) → List ℕ → Result A CutShort → Type 0
+abbrev pub SendsTo : {A : Type 0} → Option (List ℕ) → Option (List ℕ) → List ℕ → Result A RunFault → Type 0
 SendsTo before after text (Ok _) = Appends before after text
 SendsTo before after text (Err Memory) = after ≡ before
 SendsTo before after text (Err Device) = (count : ℕ) × (count ≤ length text) × Appends before after (take count text)
 
 -- how a run was cut short that ends a command so: whole lines have gone out where it was refused, and else first bytes
-abbrev pub cut_of : Status → CutShort
+abbrev pub cut_of : Status → RunFault
 cut_of Refused = Memory
 cut_of _ = Device
 

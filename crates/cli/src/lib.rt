@@ -52,7 +52,7 @@ pub use init_engine::Rest;
 pub use lazy::{LazyRun, Shown, run_class_files};
 pub use renewing::renewed_image;
 pub use run::{CommandEnd, Held, command, command_holding};
-pub use running::{CutShort, Ran, run_world};
+pub use running::{Ran, RunFault, run_world};
 pub use status::{Status, status_of};
 pub use threads::thread_lines;
 pub use watching::{Stage, Unwatched, Watch};

@@ -27,7 +27,7 @@ use crate::telling::{
 };
 use crate::untold::tell_untold;
 use crate::{
-    CutShort, Files, Lazy, Ran, Refusal, Replay, Request, Run, Status, Unwatched, Watch, auditing,
+    Files, Lazy, Ran, Refusal, Replay, Request, Run, RunFault, Status, Unwatched, Watch, auditing,
     explaining, image_build, image_run, lazy, line, renewing, reporting, run_world, status_of,
 };
 use init_engine::World;
@@ -415,7 +415,7 @@ fn run_told<R: Threads + Wait + Sync, F: Files, W: Write + Send + Drop, E: Error
     errors: &mut E,
 ) -> (Status, Held, W)
     ensures refused { result.0 ≡ Status.Refused → IsCutShort start.image.program (world_of start.world)
-        (W.contents out) (W.contents result.2) CutShort.Memory }
+        (W.contents out) (W.contents result.2) RunFault.Memory }
     ensures words { result.0 ≢ Status.Words }
     ensures done { IsOver result.0 → HasEndedWithJournal (F.holds files.old) (F.holds files.new) words.now.journal
         start.image.program (world_of start.world) (W.contents out) (W.contents result.2) result.0 }
@@ -461,8 +461,8 @@ fn ran_by_turns<W: Write>(
 {
     match run_world(alloc, program, world, limit, out) {
         Ok(ran) => Ok(journaled(ran)),
-        Err(CutShort::Memory) => Err(Refusal::Memory),
-        Err(CutShort::Device) => Err(Refusal::Device),
+        Err(RunFault::Memory) => Err(Refusal::Memory),
+        Err(RunFault::Device) => Err(Refusal::Device),
     }
 }
 
@@ -585,15 +585,15 @@ fn run_from<W: Write, E: Errors>(
     errors: &mut E,
 ) -> Status
     ensures refused { result ≡ Status.Refused
-        → IsCutShort program.now (world_of world) (W.contents out.old) (W.contents out.new) CutShort.Memory }
+        → IsCutShort program.now (world_of world) (W.contents out.old) (W.contents out.new) RunFault.Memory }
     ensures words { result ≢ Status.Words }
     ensures done { IsOver result → HasEndedByTurns program.now (world_of world) words.now.limit (W.contents out.old)
         (W.contents out.new) result }
 {
     match run_world(alloc, program, world, words.limit, out) {
         Ok(ran) => tell_turns(alloc, program, words, &ran, errors),
-        Err(CutShort::Memory) => refuse(&Refusal::Memory, errors),
-        Err(CutShort::Device) => refuse(&Refusal::Device, errors),
+        Err(RunFault::Memory) => refuse(&Refusal::Memory, errors),
+        Err(RunFault::Device) => refuse(&Refusal::Device, errors),
     }
 }
 

@@ -5,7 +5,7 @@ ghost use Rattle.std.specs.Io.KnownBytes.{Appends};
 ghost use Rattle.vm_state.specs.Output.{text_of};
 ghost use Rattle.init_engine.specs.Schedules.{AreRuns};
 ghost use Rattle.init_engine.specs.Turns.{world_of};
-ghost use Rattle.cli.specs.declared.running.CutShort.TheVariants.{Memory};
+ghost use Rattle.cli.specs.declared.running.RunFault.TheVariants.{Memory};
 ghost use Rattle.cli.specs.Running.{HasRun, IsCutShort, IsStanding, SendsTo};
 
 use init_engine::{Ending, Output, Rest, Seen, Turning, World};
@@ -32,18 +32,18 @@ pub struct Ran {
 
 /// Why a run was cut short.
 #[derive(Clone, Copy, Debug)]
-pub enum CutShort {
+pub enum RunFault {
     /// Memory ran out. What was printed by the slices before has gone out.
     Memory,
     /// The sink failed. The first bytes of what was printed have gone out.
     Device,
 }
 
-impl From<AllocError> for CutShort {
+impl From<AllocError> for RunFault {
     ghost from_gives = { λ _ e. e ≡ Memory };
 
-    fn from(_error: AllocError) -> CutShort {
-        CutShort::Memory
+    fn from(_error: AllocError) -> RunFault {
+        RunFault::Memory
     }
 }
 
@@ -59,7 +59,7 @@ pub fn run_world<W: Write>(
     world: World,
     limit: u64,
     out: &mut W,
-) -> Result<Ran, CutShort>
+) -> Result<Ran, RunFault>
     ensures ran { IfOk result (HasRun program.now (world_of world) limit (W.contents out.old) (W.contents out.new)) }
     ensures cut { IfErr result (IsCutShort program.now (world_of world) (W.contents out.old) (W.contents out.new)) }
 {
@@ -68,7 +68,7 @@ pub fn run_world<W: Write>(
     'slices: loop {
         let over = match turning.go_on(alloc, program, STEPS, BYTES) {
             Ok(over) => over,
-            Err(_) => return Err(CutShort::Memory),
+            Err(_) => return Err(RunFault::Memory),
         };
         match send_further(turning.printed(), sent, out) {
             Ok(count) => sent = count,
@@ -77,7 +77,7 @@ pub fn run_world<W: Write>(
         if over {
             return match what_is_left(alloc, program, turning) {
                 Ok(ran) => Ok(ran),
-                Err(_) => Err(CutShort::Memory),
+                Err(_) => Err(RunFault::Memory),
             };
         }
     }
@@ -100,7 +100,7 @@ fn what_is_left(alloc: Global, program: &Program, turning: Turning) -> Result<Ra
 }
 
 /// Sends the prints after the first `sent`, and answers how many there are.
-fn send_further<W: Write>(printed: &Output, sent: usize, out: &mut W) -> Result<usize, CutShort>
+fn send_further<W: Write>(printed: &Output, sent: usize, out: &mut W) -> Result<usize, RunFault>
     requires { sent ≤ length printed.now }
     ensures all { IfOk result (λ count. count ≡ length printed.now) }
     ensures sends { SendsTo (W.contents out.old) (W.contents out.new) (text_of (drop sent printed.now)) result }
@@ -111,7 +111,7 @@ fn send_further<W: Write>(printed: &Output, sent: usize, out: &mut W) -> Result<
     }
     let (_, whole) = send_all(text, out);
     if !whole || out.flush().is_err() {
-        return Err(CutShort::Device);
+        return Err(RunFault::Device);
     }
     Ok(printed.count())
 }
@@ -135,7 +135,7 @@ fn send_all<W: Write>(bytes: &[u8], out: &mut W) -> (usize, bool)
 }
 
 /// Sends what was printed.
-pub(crate) fn send_seen<W: Write>(seen: &Seen, out: &mut W) -> Result<(), CutShort>
+pub(crate) fn send_seen<W: Write>(seen: &Seen, out: &mut W) -> Result<(), RunFault>
     ensures { SendsTo (W.contents out.old) (W.contents out.new) (text_of seen.now.printed) result }
 {
     match send_further(&seen.printed, 0, out) {

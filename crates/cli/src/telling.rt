@@ -12,7 +12,7 @@ use crate::meanings::Errors;
 use crate::outputs::Clash;
 use crate::running::send_seen;
 use crate::standing::tell_image_stacks;
-use crate::{CutShort, Refusal, Replay, Request, Stage, Status, Watch, WordsFault, thread_lines};
+use crate::{Refusal, Replay, Request, RunFault, Stage, Status, Watch, WordsFault, thread_lines};
 use init_engine::Ending;
 use program::Program;
 use std::alloc::Global;
@@ -37,8 +37,8 @@ pub(crate) fn tell_replay<W: Write, E: Errors>(
 {
     match send_seen(&replayed.seen, out) {
         Ok(()) => tell_replay_threads(alloc, words, replayed, status, errors),
-        Err(CutShort::Memory) => refuse(&Refusal::Memory, errors),
-        Err(CutShort::Device) => refuse(&Refusal::Device, errors),
+        Err(RunFault::Memory) => refuse(&Refusal::Memory, errors),
+        Err(RunFault::Device) => refuse(&Refusal::Device, errors),
     }
 }
 

@@ -1,16 +1,14 @@
 -- What the conduct of one instruction makes of an initializer.
 use Rattle.std.proofs.Common.{◌≡◌, ℕ, suc, ◌+◌, ◌-◌, ◌<◌, ◌≤◌, true, false, nat_lt, List, [], ◌∷◌}
-use Rattle.std.proofs.Common.{Option, Some, None, Ok, Err, option_map, inl, inr, refl, sym, ap, subst, subst₂, ◌∙◌}
+use Rattle.std.proofs.Common.{Option, Some, None, Ok, Err, inl, inr, refl, sym, ap, subst, subst₂, ◌∙◌}
 use Rattle.std.proofs.Common.{arith}
 use Rattle.std.proofs.lemmas.Bool.{cases_lt}
 use Rattle.vm_state.specs.declared.frame.Activity.{Activity}
 use Rattle.vm_state.specs.declared.frame.Frame.{Frame}
-use Rattle.vm_state.specs.declared.value.Value.{Value}
 use Rattle.vm_state.specs.Operands.{OperandStack}
-use Rattle.vm_state.specs.Segments.{first_frame, callers_of}
 use Rattle.vm_state.specs.SharedState.{Region}
-use Rattle.semantics.specs.Rows.{Row, Becomes as BecomesFrame, Calls as CallsFrame, Returns as ReturnsValue}
-use Rattle.semantics.specs.Moves.{moved, received, stays, with_operands}
+use Rattle.semantics.specs.Rows.{Row, Becomes as BecomesFrame, Calls as CallsFrame}
+use Rattle.semantics.specs.Moves.{moved, stays, with_operands}
 use Rattle.semantics.specs.Programs.{Program}
 use Rattle.semantics.specs.Quiet.{Environment, QuietMove, OverBudget, Faulted, Stop, Refused, Conduct, Leaves, Stops}
 use Rattle.semantics.specs.Quiet.{quiet_step}
@@ -109,32 +107,6 @@ module _ (P : Program) (env : Environment) (c : ℕ) where
   calls_on most f callee operands fs gs own new made e leads =
       step_on most f fs gs own (record { move = CallsFrame operands callee; region = new; elements = made }) e
       (ap Some (sym leads))
-
-  pub returns_over : (most : ℕ) (f : Frame) (fs : List Frame) (v : Option Value) (own new : Region) (made : ℕ) →
-      conduct most f own ≡ Leaves (record { move = ReturnsValue v; region = new; elements = made }) →
-      first_frame fs ≡ None → GoesOn P env c (f ∷ fs) own (suc most) [] new (most - made)
-  returns_over most f [] v own new made e none =
-      step_on most f [] [] own (record { move = ReturnsValue v; region = new; elements = made }) e refl
-  returns_over most f (g ∷ gs) v own new made e none = cc
-
-  pub returns_on : (most : ℕ) (f g back : Frame) (fs gs : List Frame) (v : Option Value) (own new : Region) (made : ℕ) →
-      conduct most f own ≡ Leaves (record { move = ReturnsValue v; region = new; elements = made }) →
-      first_frame fs ≡ Some g → gs ≡ callers_of fs → received v g ≡ Some back →
-      GoesOn P env c (f ∷ fs) own (suc most) (back ∷ gs) new (most - made)
-  returns_on most f g back [] gs v own new made e first rest room = cc
-  returns_on most f g back (h ∷ hs) gs v own new made e first rest room =
-      let caller : h ≡ g = cc in
-      step_on most f (h ∷ hs) (back ∷ gs) own (record { move = ReturnsValue v; region = new; elements = made }) e
-      (rw (caller, rest) (ap (option_map (λ (b : Frame). b ∷ hs)) room))
-
-  pub returns_full : (most : ℕ) (f g : Frame) (fs : List Frame) (v : Option Value) (own new : Region) (made : ℕ) →
-      conduct most f own ≡ Leaves (record { move = ReturnsValue v; region = new; elements = made }) →
-      first_frame fs ≡ Some g → received v g ≡ None → StopsAlone P env c (f ∷ fs) own (suc most) (Refused Faulted)
-  returns_full most f g [] v own new made e first room = cc
-  returns_full most f g (h ∷ hs) v own new made e first room =
-      let caller : h ≡ g = cc in
-      step_full most f (h ∷ hs) own (record { move = ReturnsValue v; region = new; elements = made }) e
-      (rw caller (ap (option_map (λ (b : Frame). b ∷ hs)) room))
 
   -- ---- steps in a row
 

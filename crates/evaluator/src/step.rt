@@ -15,15 +15,15 @@ ghost use Rattle.machine.specs.declared.kinds.Stop.{Stop as Reason};
 
 use crate::build::BuildStore;
 use crate::outcome::{Halt, Refusal};
-use machine::effects::receive;
 use machine::execute::execute;
 use machine::kinds::{Actor, Conclusion, Stop};
+use machine::moving::{NoReturn, call, leave};
 use program::Program;
 use region_shape::regions::Regions;
 use std::alloc::{AllocError, Global};
 use vm_state::frame::{Frame, Segment};
 use vm_state::spares::Spares;
-use vm_state::value::{Fault, Maker, Value};
+use vm_state::value::{Maker, Value};
 
 /// A class's initializer, and what it runs over: its program, and the regions at hand.
 #[derive(Clone, Copy)]
@@ -75,11 +75,10 @@ fn perform<'a>(
 }
 
 /// A call: the frame of the method called stands on its caller, which loses the arguments.
-fn call(segment: &mut Segment, callee: Frame, arguments: usize) -> Result<Progress, AllocError>
+fn enter(segment: &mut Segment, callee: Frame, arguments: usize) -> Result<Progress, AllocError>
     ensures { IfOk result (λ progress. Concludes (Conclusion.Calls callee arguments) segment.old progress segment.new) }
 {
-    segment.innermost.cells.drop_many(arguments);
-    segment.call(callee)?;
+    call(segment, callee, arguments)?;
     Ok(Progress::On)
 }
 
@@ -87,13 +86,10 @@ fn call(segment: &mut Segment, callee: Frame, arguments: usize) -> Result<Progre
 fn return_from(segment: &mut Segment, value: Option<Value>) -> Progress
     ensures { Concludes (Conclusion.Returns value) segment.old result segment.new }
 {
-    let Some(caller) = segment.callers.pop() else {
-        return Progress::Over;
-    };
-    segment.innermost = caller;
-    match receive(&mut segment.innermost, value) {
-        Ok(()) => Progress::On,
-        Err(Fault) => Progress::Stopped(Halt::Refused(Refusal::Faulted)),
+    match leave(segment, value) {
+        Ok(_) => Progress::On,
+        Err(NoReturn::NoCaller) => Progress::Over,
+        Err(NoReturn::NoRoom) => Progress::Stopped(Halt::Refused(Refusal::Faulted)),
     }
 }
 
@@ -110,7 +106,7 @@ fn conclude(segment: &mut Segment, conclusion: Conclusion) -> Result<Progress, A
             segment.innermost = frame;
             Ok(Progress::On)
         }
-        Conclusion::Calls { callee, arguments } => call(segment, callee, arguments),
+        Conclusion::Calls { callee, arguments } => enter(segment, callee, arguments),
         Conclusion::Returns(value) => Ok(return_from(segment, value)),
         Conclusion::Prints { .. } => Ok(Progress::Stopped(Halt::Barred)),
         Conclusion::Raises(..) => Ok(Progress::Stopped(Halt::Refused(Refusal::Raised))),

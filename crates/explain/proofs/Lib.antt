@@ -8,7 +8,7 @@ pub mod RootsLemmas
 pub mod TextsLemmas
 pub mod PairsLemmas
 pub mod CyclesLemmas
-pub mod BearersLemmas
+pub mod GoalsLemmas
 pub mod FoundLemmas
 pub mod MarkingLemmas
 pub mod SelectedLemmas

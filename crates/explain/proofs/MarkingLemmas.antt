@@ -1,4 +1,4 @@
--- Instructions that bear a mark, as bearers of the methods in which they stand.
+-- Instructions that bear a mark, as goals of the methods in which they stand.
 use Rattle.std.proofs.Common.{◌≡◌, ◌≢◌, ◌↔◌, ◌⊎◌, ◌∙◌, ℕ, ◌+◌, ◌<◌, ◌≤◌, List, [], ◌∷◌, ◌++◌, length, Option, Some}
 use Rattle.std.proofs.Common.{None}
 use Rattle.std.proofs.Common.{MatchOption, slice_get, slice_index_or, refl, sym, ap, subst, inl, inr, arith}
@@ -21,13 +21,13 @@ use Rattle.use_graph.specs.steps.Deeds.{HoldsOfOne}
 use Rattle.use_graph.proofs.DeedsLemmas.{pc_of_told}
 use Rattle.use_graph.proofs.ReachedLemmas.{runs_reached, reached_runs}
 use Rattle.initializer_analysis.proofs.MarkingLemmas.{body_of, none_runs}
-use Rattle.explain.specs.declared.bearers.Bearer.{Bearer}
-use Rattle.explain.specs.declared.bearers.Pair.{Pair}
-use Rattle.explain.specs.declared.bearers.Source.{Source}
-use Rattle.explain.specs.steps.Bearers.{IsOf}
+use Rattle.explain.specs.declared.goals.Goal.{Goal}
+use Rattle.explain.specs.declared.goals.Pair.{Pair}
+use Rattle.explain.specs.declared.goals.Source.{Source}
+use Rattle.explain.specs.steps.Goals.{IsOf}
 use Rattle.explain.specs.steps.Nearest.{AreNearest, HaveVertices}
 use Rattle.explain.specs.steps.Marking.{AreSources, AreSourcesBelow, AreTold, IsMarking, IsSourceAt, IsSourceOf}
-use Rattle.explain.specs.steps.Marking.{ReachesBearer}
+use Rattle.explain.specs.steps.Marking.{ReachesGoal}
 
 same_some : {A : Type 0} (x y : A) → Some x ≡ Some y → x ≡ y
 same_some x y e = cc
@@ -42,14 +42,14 @@ pub source_at : (uses : UseGraph) (mark : Mark) (v : ℕ) (m : DeclaredMember) (
     → slice_get uses.methods v ≡ Some m → slice_get uses.bodies.items v ≡ Some b
     → IsSourceAt uses mark v s ↔ HoldsOfOne (IsSourceOf mark v m) b.told.items s
 source_at uses mark v m b s at here = (
-  λ (vertex, (n, x, is, there, (t, among, bearer))).
+  λ (vertex, (n, x, is, there, (t, among, goal))).
       let body : x ≡ b = same_at uses.bodies.items v x b there here in
       let method : n ≡ m = same_at uses.methods v n m is at in (
         t,
         subst (λ (y : BodyUses). Contains y.told.items t) body among,
-        (vertex, rw (sym method) bearer),
+        (vertex, rw (sym method) goal),
       ),
-  λ (t, among, (vertex, bearer)). (vertex, (m, b, at, here, (t, among, bearer))),
+  λ (t, among, (vertex, goal)). (vertex, (m, b, at, here, (t, among, goal))),
 )
 
 pub either_as : {A : Type 0} (old new : List A) (x : A) (More Other : Type 0)
@@ -67,12 +67,12 @@ pub below_more : (uses : UseGraph) (mark : Mark) (v : ℕ) (old new : List Sourc
     → AreSourcesBelow uses mark (v + 1) new
 below_more uses mark v old new before adds s = (
   λ p. elim ((adds s).0 p) [
-    | inl was ↦ (let (low, bearer) = (before s).0 was in (omega (arith, low), bearer))
-    | inr (vertex, bearer) ↦ (omega (arith, vertex), rw vertex bearer)
+    | inl was ↦ (let (low, goal) = (before s).0 was in (omega (arith, low), goal))
+    | inr (vertex, goal) ↦ (omega (arith, vertex), rw vertex goal)
   ],
-  λ (low, bearer). (adds s).1 (elim (below_or s.vertex v low) [
-    | inl less ↦ inl ((before s).1 (less, bearer))
-    | inr same ↦ inr (same, rw same at bearer)
+  λ (low, goal). (adds s).1 (elim (below_or s.vertex v low) [
+    | inl less ↦ inl ((before s).1 (less, goal))
+    | inr same ↦ inr (same, rw same at goal)
   ]),
 )
 
@@ -80,10 +80,10 @@ pub below_all : (uses : UseGraph) (mark : Mark) (limit : ℕ) (sources : List So
     → AreSourcesBelow uses mark limit sources → AreSources uses mark sources
 below_all uses mark limit sources all below s = (
   λ p. ((below s).0 p).1,
-  λ bearer. (below s).1 (
-    (let (m, b, at, here, held) = bearer in
+  λ goal. (below s).1 (
+    (let (m, b, at, here, held) = goal in
         let low = slice_get_within uses.methods s.vertex m at in omega (arith, low, all)),
-    bearer,
+    goal,
   ),
 )
 
@@ -106,11 +106,11 @@ is_marking uses mark back sources pairs turned are near = record {
       let (u, among, path) = near.sound v g has in (
         u,
         Reaches-turned back uses.calls u v (IsReverse-turned uses.calls back turned) path,
-        (are (record { vertex = u; bearer = g })).0 among,
+        (are (record { vertex = u; goal = g })).0 among,
       );
-  complete = λ v g (u, path, bearer). near.complete v g (
+  complete = λ v g (u, path, goal). near.complete v g (
     u,
-    (are (record { vertex = u; bearer = g })).1 bearer,
+    (are (record { vertex = u; goal = g })).1 goal,
     Reaches-turned uses.calls back v u turned path,
   );
 }
@@ -120,8 +120,8 @@ is_marking uses mark back sources pairs turned are near = record {
 module _ (P : Tables) (uses : UseGraph) (c : ℕ) (mark : Mark) (whole : IsUseGraph P uses) (m s : ℕ)
     (begins : initializer_in P c ≡ Some m)
     (number : slice_get uses.methods s ≡ Some (record { class = c; index = m })) where
-  bearer_reached : HasMark P c mark → (g : Bearer) × (ReachesBearer uses mark s g × (g.field_class ≢ Some c))
-  bearer_reached (d, k, place, runs, (t, told, (is, other))) =
+  goal_reached : HasMark P c mark → (g : Goal) × (ReachesGoal uses mark s g × (g.field_class ≢ Some c))
+  goal_reached (d, k, place, runs, (t, told, (is, other))) =
       let x : DeclaredMember = record { class = d; index = k } in
       let (n, path, at) =
       runs_reached P uses.methods uses.calls whole.methods whole.calls c m s begins number d k runs in
@@ -133,19 +133,19 @@ module _ (P : Tables) (uses : UseGraph) (c : ℕ) (mark : Mark) (whole : IsUseGr
         ((n, path, (x, b, at, here, (item, among, (sym is, refl, refl, refl, refl)))), other),
       )
 
-  reached_evidence : (g : Bearer) → ReachesBearer uses mark s g → g.field_class ≢ Some c → IsEvidence P c mark g.at
+  reached_evidence : (g : Goal) → ReachesGoal uses mark s g → g.field_class ≢ Some c → IsEvidence P c mark g.at
   reached_evidence g (n, path, (x, b, at, here, (t, among, (is, field, class, index, pc)))) other =
       let runs = reached_runs P uses.methods uses.calls whole.methods whole.calls c m s begins number n x at path in
       let (place, first, told) = ((whole.bodies n x b at here).told t).0 among in
       rw (class, index, pc) (runs, place, first, (t.feature, told, (sym is, λ e. other (field ∙ e))))
 
-  pub tells_by : (pairs : List Pair) (pair : Pair) (found : Option Bearer) → IsMarking uses mark pairs
+  pub tells_by : (pairs : List Pair) (pair : Pair) (found : Option Goal) → IsMarking uses mark pairs
       → slice_get pairs s ≡ Some pair
-      → MatchOption found ((g : Bearer) → IsOf pair g → g.field_class ≡ Some c)
+      → MatchOption found ((g : Goal) → IsOf pair g → g.field_class ≡ Some c)
       (λ g. IsOf pair g × (g.field_class ≢ Some c))
       → MatchOption found (¬ HasMark P c mark) (λ g. IsEvidence P c mark g.at)
   tells_by pairs pair None marking at none = λ has.
-      let (g, (reaches, other)) = bearer_reached has in
+      let (g, (reaches, other)) = goal_reached has in
       let (h, (q, there, of), differs) = marking.complete s g reaches (Some c) other in
       differs (none h (subst (λ (p : Pair). IsOf p h) (same_at pairs s q pair there at) of))
   tells_by pairs pair (Some g) marking at (of, other) =

@@ -4,18 +4,18 @@ use Rattle.program.specs.Tables.{Tables}
 use Rattle.use_graph.specs.declared.mark.Mark.{Mark}
 use Rattle.use_graph.specs.declared.mark.Mark.TheVariants as marks
 use Rattle.use_graph.specs.Uses.{HasMark, IsEvidence}
-use Rattle.explain.specs.declared.marks.ShownMark.{ShownMark}
+use Rattle.explain.specs.declared.marks.Shown.{Shown}
 use Rattle.explain.specs.declared.marks.ShownMarks.{ShownMarks}
 use Rattle.explain.specs.Paths.{IsPath}
 
 -- evidence for a mark, with the calls that lead to its method where these are asked for, and no calls where not
-pub record IsShown (P : Tables) (paths : Bool) (c : ℕ) (mark : Mark) (shown : ShownMark) : Type 0 where
+pub record IsShown (P : Tables) (paths : Bool) (c : ℕ) (mark : Mark) (shown : Shown) : Type 0 where
   pub evidence : IsEvidence P c mark shown.at
   pub path : IsTrue paths → IsPath P c shown.at.class shown.at.index shown.path.items
   pub none : IsFalse paths → shown.path.items ≡ []
 
 -- or nothing where the class has it not
-abbrev pub ShowsMark : Tables → Bool → ℕ → Mark → Option ShownMark → Type 0
+abbrev pub ShowsMark : Tables → Bool → ℕ → Mark → Option Shown → Type 0
 ShowsMark P paths c mark shown = MatchOption shown (¬ HasMark P c mark) (IsShown P paths c mark)
 
 -- all marks that hold are told, and no others

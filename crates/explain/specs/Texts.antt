@@ -20,7 +20,7 @@ use Rattle.explain.specs.Chains.{IsChain, Leads}
 use Rattle.explain.specs.Explanations.{Explains}
 use Rattle.explain.specs.Reruns.{IsRerunIn}
 use Rattle.explain.specs.declared.explaining.Explanation.{Explanation}
-use Rattle.explain.specs.declared.marks.ShownMark.{ShownMark}
+use Rattle.explain.specs.declared.marks.Shown.{Shown}
 use Rattle.explain.specs.declared.marks.ShownMarks.{ShownMarks}
 use Rattle.explain.specs.declared.reruns.Rerun.{Rerun}
 
@@ -55,7 +55,7 @@ forced_line family c false = []
 forced_line family c true = line family c (codes "Forced")
 
 -- the instruction that bears a mark, and the calls that lead there
-abbrev pub mark_lines : Family → ℕ → Mark → Option ShownMark → List ℕ
+abbrev pub mark_lines : Family → ℕ → Mark → Option Shown → List ℕ
 mark_lines family c mark None = []
 mark_lines family c mark (Some shown) = place_line family c (reasons.Marked mark) (codes "at") shown.at
     ++ flat_map (λ call. place_line family c (reasons.Marked mark) (codes "in") call) shown.path.items

@@ -4,7 +4,7 @@ pub mod Callers
 pub mod Refused
 pub mod Pairs
 pub mod Over
-pub mod Bearers
+pub mod Goals
 pub mod Nearest
 pub mod Found
 pub mod Marking

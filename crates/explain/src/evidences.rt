@@ -7,10 +7,10 @@ ghost use Rattle.use_graph.specs.declared.mark.Mark.{Mark as Kind};
 ghost use Rattle.use_graph.specs.Uses.{Tells};
 ghost use Rattle.use_graph.specs.steps.Bodies.{IsUseGraph};
 ghost use Rattle.use_graph.specs.steps.Deeds.{HoldsOfOne};
-ghost use Rattle.explain.specs.declared.bearers.Source.{Source as Held};
+ghost use Rattle.explain.specs.declared.goals.Source.{Source as Held};
 ghost use Rattle.explain.specs.steps.Marking.{AreEvidences, AreSources, AreTold, IsMarking, IsSourceAt, IsSourceOf};
 
-use crate::bearers::{Bearer, Pair, Source};
+use crate::goals::{Goal, Pair, Source};
 use crate::nearest::nearest;
 use graph::{Graph, reversed};
 use hierarchy::member::DeclaredMember;
@@ -33,7 +33,7 @@ pub(crate) struct Evidences {
 }
 
 /// Adds what is told of an instruction of the method of a vertex, where it is this mark for some class.
-fn add_bearer(
+fn add_goal(
     item: Told,
     vertex: usize,
     method: DeclaredMember,
@@ -52,14 +52,14 @@ fn add_bearer(
         let field_class = item.feature.field_class();
         sources.push(Source {
             vertex,
-            bearer: Bearer { at, field_class },
+            goal: Goal { at, field_class },
         })?;
     }
     Ok(())
 }
 
 /// Adds what is told of some instructions of the method of a vertex, where it is this mark for some class.
-fn add_bearers(
+fn add_goals(
     told: &[Told],
     vertex: usize,
     method: DeclaredMember,
@@ -70,7 +70,7 @@ fn add_bearers(
         ↔ (Contains sources.old.items s ⊎ HoldsOfOne (IsSourceOf mark vertex method) told.now s)) }
 {
     for item in told {
-        add_bearer(*item, vertex, method, mark, sources)?;
+        add_goal(*item, vertex, method, mark, sources)?;
     }
     Ok(())
 }
@@ -91,7 +91,7 @@ fn add_vertex(
     let Some(body) = uses.body(vertex) else {
         return Ok(());
     };
-    add_bearers(&body.told, vertex, method, mark, sources)?;
+    add_goals(&body.told, vertex, method, mark, sources)?;
     Ok(())
 }
 
@@ -130,7 +130,7 @@ fn evidence_of(program: &Program, uses: &UseGraph, pairs: &[Pair], class: u32) -
 {
     match start_of(program, uses, class) {
         Some(vertex) => match pairs[vertex].but(class) {
-            Some(bearer) => Some(bearer.at),
+            Some(goal) => Some(goal.at),
             None => None,
         },
         None => None,

@@ -17,7 +17,7 @@ use use_graph::UseGraph;
 
 /// What is known of all classes of a program.
 #[derive(Drop)]
-pub struct Knowledge {
+pub struct Known {
     uses: UseGraph,
     /// By class: another that it uses, by one use or several, and that uses it so.
     cycles: Vec<Option<u32>>,
@@ -52,7 +52,7 @@ fn other_at(others: &[Option<u32>], class: u32) -> Option<u32>
     }
 }
 
-impl Knowledge {
+impl Known {
     /// What is known of all classes, which have these verdicts in the end.
     ///
     /// # Errors
@@ -61,7 +61,7 @@ impl Knowledge {
         alloc: Global,
         program: &Program,
         verdicts: &[Verdict],
-    ) -> Result<Knowledge, AllocError>
+    ) -> Result<Known, AllocError>
         requires { length verdicts.now ≡ length program.now.classes }
         ensures { IfOk result (IsKnown program.now verdicts.now) }
     {
@@ -70,7 +70,7 @@ impl Knowledge {
         let first = first_uses(alloc, program, &uses, verdicts)?;
         let evidences = evidences_of(alloc, program, &uses)?;
         let search = Search::new(alloc, uses.calls.len())?;
-        Ok(Knowledge {
+        Ok(Known {
             uses,
             cycles,
             first,

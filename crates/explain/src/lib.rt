@@ -1,7 +1,6 @@
 //! Why classes stay at run time, and what became of the others.
 #![tactic(auto)]
 
-mod bearers;
 mod blamed;
 mod calls;
 mod chain_lines;
@@ -9,6 +8,7 @@ mod chains;
 mod cycles;
 mod evidences;
 mod explaining;
+mod goals;
 mod lines;
 mod marks;
 mod nearest;
@@ -22,9 +22,9 @@ mod stops;
 mod words;
 
 pub use chains::chain_of;
-pub use explaining::{Explanation, Knowledge};
+pub use explaining::{Explanation, Known};
 pub use lines::{all_text, class_text};
-pub use marks::{ShownMark, ShownMarks};
+pub use marks::{Shown, ShownMarks};
 pub use reruns::{Rerun, run_again};
 pub use sizes::region_size;
 pub use stops::stop_within;

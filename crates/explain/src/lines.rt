@@ -10,7 +10,7 @@ ghost use Rattle.explain.specs.steps.Roots.{AreRoots};
 
 use crate::blamed::{Blamed, most_blamed, roots_of};
 use crate::chain_lines::{chain_text, ends_text};
-use crate::explaining::Knowledge;
+use crate::explaining::Known;
 use crate::reason_lines::reason_lines;
 use crate::run_lines::run_text;
 use crate::words::{line, name_text};
@@ -93,7 +93,7 @@ pub fn class_text(
 {
     let program = image.program();
     let family = program.family();
-    let mut known = Knowledge::of_program(alloc, program, verdicts)?;
+    let mut known = Known::of_program(alloc, program, verdicts)?;
     let explanation = known.explain(alloc, program, verdicts, forced, true, class)?;
     let verdict = verdict_line(alloc, image, class, explanation.verdict)?;
     let run = run_text(alloc, image, budget, class, explanation.verdict)?;
@@ -110,7 +110,7 @@ fn text_among_all(
     verdicts: &[Verdict],
     forced: &Forced,
     roots: &[usize],
-    known: &mut Knowledge,
+    known: &mut Known,
     class: u32,
 ) -> Result<String, AllocError>
     requires known { IsKnown image.now.program verdicts.now known.old }
@@ -143,7 +143,7 @@ fn each_text(
     ensures { IfOk result
         (λ text. AreEachBelow (IsTextAmongAll image.now verdicts.now forced.now) count (string_bytes text)) }
 {
-    let mut known = Knowledge::of_program(alloc, image.program(), verdicts)?;
+    let mut known = Known::of_program(alloc, image.program(), verdicts)?;
     let mut text = String::new(alloc);
     for class in 0..count {
         let lines = text_among_all(alloc, image, verdicts, forced, roots, &mut known, class)?;

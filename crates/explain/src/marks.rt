@@ -22,7 +22,7 @@ use use_graph::{UseGraph, start_of};
 
 /// Where a mark is borne.
 #[derive(Drop)]
-pub struct ShownMark {
+pub struct Shown {
     /// An instruction that bears it.
     pub at: Evidence,
     /// The calls by which the class's initializer comes to its method, the innermost first: none where they were not
@@ -33,13 +33,13 @@ pub struct ShownMark {
 /// Where each mark is borne, in a method that may run; none of a mark that no such instruction bears.
 #[derive(Drop)]
 pub struct ShownMarks {
-    pub prints: Option<ShownMark>,
-    pub throws: Option<ShownMark>,
-    pub monitors: Option<ShownMark>,
-    pub foreign_write: Option<ShownMark>,
-    pub foreign_read: Option<ShownMark>,
-    pub unsupported: Option<ShownMark>,
-    pub missing: Option<ShownMark>,
+    pub prints: Option<Shown>,
+    pub throws: Option<Shown>,
+    pub monitors: Option<Shown>,
+    pub foreign_write: Option<Shown>,
+    pub foreign_read: Option<Shown>,
+    pub unsupported: Option<Shown>,
+    pub missing: Option<Shown>,
 }
 
 /// Whether a method stands at a place of a search.
@@ -131,7 +131,7 @@ fn shown_mark(
     paths: bool,
     class: u32,
     row: &[Option<Evidence>],
-) -> Result<Option<ShownMark>, AllocError>
+) -> Result<Option<Shown>, AllocError>
     requires uses { IsUseGraph program.now uses.now }
     requires searched { IsTrue paths → IsSearched program.now uses.now class search.now }
     requires told { (mark : Kind) × AreTold program.now mark row.now }
@@ -146,7 +146,7 @@ fn shown_mark(
         index: at.index,
     };
     let path = path_if(alloc, program, uses, search, class, paths, method)?;
-    Ok(Some(ShownMark { at, path }))
+    Ok(Some(Shown { at, path }))
 }
 
 /// Where each mark is borne, with the calls that lead there where a search has found what may run.

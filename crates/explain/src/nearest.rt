@@ -1,18 +1,18 @@
-//! For each vertex of a graph the nearest of the bearers that some vertices have.
+//! For each vertex of a graph the nearest of the goals that some vertices have.
 
 ghost use Rattle.std.specs.Prelude.{◌≡◌, ◌<◌, [], length, replicate, IfOk, OnOk};
 ghost use Rattle.std.specs.List.{All, Contains};
 ghost use Rattle.explain.specs.steps.Nearest.{AreNearest, HaveVertices};
 ghost use Rattle.explain.specs.steps.Found.{AddsAll, AreFound, IsIn, no_pair};
 
-use crate::bearers::{Bearer, Pair, Source};
+use crate::goals::{Goal, Pair, Source};
 use graph::Graph;
 use std::alloc::{AllocError, Global};
 
-/// Gives a vertex a bearer, where that says more than those that it has, and notes it.
+/// Gives a vertex a goal, where that says more than those that it has, and notes it.
 fn add(
     vertex: usize,
-    bearer: Bearer,
+    goal: Goal,
     pairs: &mut [Pair],
     found: &mut Vec<Source>,
 ) -> Result<(), AllocError>
@@ -20,17 +20,17 @@ fn add(
     requires are { AreFound pairs.old found.old.items }
     ensures are { OnOk result (AreFound pairs.new found.new.items) }
     ensures len { length pairs.new ≡ length pairs.old }
-    ensures adds { OnOk result (AddsAll (λ s. (s.vertex ≡ vertex) × (s.bearer ≡ bearer)) pairs.old found.old.items
+    ensures adds { OnOk result (AddsAll (λ s. (s.vertex ≡ vertex) × (s.goal ≡ goal)) pairs.old found.old.items
         pairs.new found.new.items) }
 {
-    if let Some(pair) = pairs[vertex].with(bearer) {
-        found.push(Source { vertex, bearer })?;
+    if let Some(pair) = pairs[vertex].with(goal) {
+        found.push(Source { vertex, goal })?;
         pairs[vertex] = pair;
     }
     Ok(())
 }
 
-/// Gives vertices their bearers.
+/// Gives vertices their goals.
 fn add_all(
     sources: &[Source],
     pairs: &mut [Pair],
@@ -43,15 +43,15 @@ fn add_all(
     ensures adds { OnOk result (AddsAll (Contains sources.now) pairs.old found.old.items pairs.new found.new.items) }
 {
     for source in sources {
-        add(source.vertex, source.bearer, pairs, found)?;
+        add(source.vertex, source.goal, pairs, found)?;
     }
     Ok(())
 }
 
-/// Gives the vertices of a row a bearer.
+/// Gives the vertices of a row a goal.
 fn add_row(
     row: &[usize],
-    bearer: Bearer,
+    goal: Goal,
     pairs: &mut [Pair],
     found: &mut Vec<Source>,
 ) -> Result<(), AllocError>
@@ -59,15 +59,15 @@ fn add_row(
     requires are { AreFound pairs.old found.old.items }
     ensures are { OnOk result (AreFound pairs.new found.new.items) }
     ensures len { length pairs.new ≡ length pairs.old }
-    ensures adds { OnOk result (AddsAll (IsIn row.now bearer) pairs.old found.old.items pairs.new found.new.items) }
+    ensures adds { OnOk result (AddsAll (IsIn row.now goal) pairs.old found.old.items pairs.new found.new.items) }
 {
     for vertex in row {
-        add(*vertex, bearer, pairs, found)?;
+        add(*vertex, goal, pairs, found)?;
     }
     Ok(())
 }
 
-/// Gives each vertex the bearers of those that it leads to, the nearest first, where each source has its own.
+/// Gives each vertex the goals of those that it leads to, the nearest first, where each source has its own.
 fn spread(
     back: &Graph,
     sources: &[Source],
@@ -82,15 +82,15 @@ fn spread(
     add_all(sources, pairs, found)?;
     let mut next = 0;
     while next < found.len() {
-        let Source { vertex, bearer } = found[next];
-        add_row(back.successors(vertex), bearer, pairs, found)?;
+        let Source { vertex, goal } = found[next];
+        add_row(back.successors(vertex), goal, pairs, found)?;
         next += 1;
     }
     Ok(())
 }
 
-/// For each vertex of a graph, of which this is the one with its edges turned round, the nearest bearer that it
-/// reaches, and one of another class of field, if it reaches such.
+/// For each vertex of a graph, of which this is the one with its edges turned round, the nearest goal that it reaches,
+/// and one of another class of field, if it reaches such.
 ///
 /// # Errors
 /// Where memory runs out.

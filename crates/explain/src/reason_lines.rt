@@ -5,7 +5,7 @@ ghost use Rattle.std.specs.List.{flat_map};
 ghost use Rattle.explain.specs.Texts.{cycle_line, forced_line, mark_lines, marks_lines, place_line, reason_lines};
 
 use crate::explaining::Explanation;
-use crate::marks::{ShownMark, ShownMarks};
+use crate::marks::{Shown, ShownMarks};
 use crate::words::{line, name_text, place_line};
 use initializer_analysis::verdict::Reason;
 use loading::family::Family;
@@ -37,7 +37,7 @@ fn mark_lines(
     family: &Family,
     class: u32,
     mark: Mark,
-    shown: &Option<ShownMark>,
+    shown: &Option<Shown>,
 ) -> Result<String, AllocError>
     ensures { IfOk result (λ text. string_bytes text ≡ mark_lines family.now class mark shown.now) }
 {

@@ -1,14 +1,14 @@
 -- The least class that keeps an object which no static field reaches.
-use Rattle.std.proofs.Common.{◌≡◌, ◌⊎◌, inl, inr, ℕ, zero, suc, ◌<◌, ◌≤◌, List, [], ◌∷◌, length, Option, Some}
+use Rattle.std.proofs.Common.{◌≡◌, ◌⊎◌, inl, inr, ℕ, zero, suc, ◌+◌, ◌<◌, ◌≤◌, List, [], ◌∷◌, length, Option, Some}
 use Rattle.std.proofs.Common.{None, slice_get, eqb-true}
-use Rattle.std.proofs.Common.{true, ◌==◌, get_or, refl, sym, ap, subst, ◌∙◌, arith, eq-eqb}
+use Rattle.std.proofs.Common.{Bool, true, false, ◌==◌, get_or, refl, sym, ap, subst, ◌∙◌, arith, eq-eqb}
 use Rattle.std.specs.List.{All}
 use Rattle.std.proofs.lemmas.Bool.{cases_lt}
 use Rattle.std.proofs.lemmas.List.{get_or_past}
 use Rattle.std.proofs.lemmas.Option.{slice_get_within, slice_get-get_or, same_Some}
 use Rattle.vm_state.proofs.ListLemmas.{tested}
 use Rattle.image_format.specs.Regions.{ImageObject, ImageRegion, KeptObject}
-use Rattle.image_format.specs.Objects.{region_in, objects_of, object_with}
+use Rattle.image_format.specs.Objects.{region_in, objects_of, object_with, object_of}
 use Rattle.image_format.specs.Reached.{IsReached, AreReached}
 use Rattle.image_format.proofs.ReachedLemmas.{reached_known}
 use Rattle.image_parser.specs.Idle.{IsIdle}

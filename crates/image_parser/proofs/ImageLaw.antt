@@ -24,7 +24,7 @@ use Rattle.image_format.specs.Regions.{ImageRegion}
 use Rattle.image_format.specs.declared.version.Version.{Version}
 use Rattle.image_format.specs.declared.version.Version.TheVariants as versions
 use Rattle.program.specs.Programs.{IsProgram, files_of as classes_of}
-use Rattle.image_format.specs.Images.{VersionText, ImageText, OldText}
+use Rattle.image_format.specs.Images.{VersionText, ImageText, OldText, SomeText}
 use Rattle.image_format.specs.Reached.{IsDropped}
 use Rattle.image_format.specs.Texts.{given_text, mark_text, version_number}
 use Rattle.image_format.proofs.DroppedLemmas.{one_dropped}

@@ -25,8 +25,9 @@ use Rattle.loading.proofs.UnitsLemmas.{same_units}
 use Rattle.image_format.specs.Regions.{ImageRegion}
 use Rattle.image_format.specs.declared.version.Version.{Version}
 use Rattle.image_format.specs.declared.version.Version.TheVariants as versions
-use Rattle.image_format.specs.Images.{VersionText, SomeText}
+use Rattle.image_format.specs.Images.{AreRegions, VersionText, SomeText}
 use Rattle.image_format.specs.Texts.{file_text, given_text, with_digest, version_number}
+use Rattle.image_format.proofs.DroppedLemmas.{dropped_fits}
 use Rattle.image_parser.specs.declared.fault.FilesFault.{FilesFault}
 use Rattle.image_parser.specs.declared.fault.FilesFault.TheVariants as file_faults
 use Rattle.image_parser.specs.declared.fault.RegionsFault.{RegionsFault}
@@ -38,7 +39,6 @@ use Rattle.image_parser.specs.AllRegions.{RegionsText, RegionsFail, IsShown}
 use Rattle.image_parser.specs.FileFaults.{AreFiles, FilesFail}
 use Rattle.image_parser.specs.HeaderFaults.{IsFramed}
 use Rattle.image_parser.specs.ImageFaults.{of_files, of_link, of_regions, HasFiles, IsLinked, PartsText, PartsFail}
-use Rattle.image_parser.specs.reading.Frames.{FailsInEach}
 use Rattle.image_parser.specs.reading.Marked.{RegionsHeld}
 use Rattle.image_parser.specs.Parsings.{IsOfFiles, told_in}
 use Rattle.image_parser.proofs.ToldLemmas.{regions_told}
@@ -98,41 +98,25 @@ has_files parts n bytes read rest lt is b =
           ∙ ap (λ (k : ℕ). u4 k ++ (b.text ++ rest)) (sym many);
     }
 
--- the same, after a count that was read
-pub has_counted : (parts : List ℕ) → IsBytes parts → 4 ≤ length parts → (n : ℕ) (bytes : List ℕ)
-    (read : List ClassFile) (rest : List ℕ) → n < 2 ^ 32 → n ≡ from_be_bytes w32 (take 4 parts) → bytes ≡ drop 4 parts
-    → Begins (AreFiles n) bytes read rest → HasFiles parts read rest
-has_counted parts fits long n bytes read rest lt is left b =
-    has_files parts n bytes read rest lt (counted parts fits long n bytes is left) b
-
 -- ---- faults of parts
 
-pub files_fail : (parts : List ℕ) (n : ℕ) (bytes : List ℕ) (e : FilesFault) → n < 2 ^ 32
+pub files_fail : (version : Version) (parts : List ℕ) (n : ℕ) (bytes : List ℕ) (e : FilesFault) → n < 2 ^ 32
     → parts ≡ u4 n ++ bytes
     → (e ≡ file_faults.Memory) ⊎ FilesFail n bytes e
-    → (of_files e ≡ faults.Memory) ⊎ FailsInEach parts (of_files e)
-files_fail parts n bytes e lt is h =
+    → (of_files e ≡ faults.Memory) ⊎ PartsFail version parts (of_files e)
+files_fail version parts n bytes e lt is h =
     elim h [
       | inl memory ↦ inl (ap of_files memory)
-      | inr fails ↦ inr (λ version. files n bytes e lt is fails)
+      | inr fails ↦ inr (files n bytes e lt is fails)
     ]
 
-pub link_fails : (parts : List ℕ) (read : List ClassFile) (rest : List ℕ) (e : LinkFault)
+pub link_fails : (version : Version) (parts : List ℕ) (read : List ClassFile) (rest : List ℕ) (e : LinkFault)
     → HasFiles parts read rest
-    → (e ≡ link_faults.Memory) ⊎ LinkFails read e → (of_link e ≡ faults.Memory) ⊎ FailsInEach parts (of_link e)
-link_fails parts read rest e has h =
+    → (e ≡ link_faults.Memory) ⊎ LinkFails read e → (of_link e ≡ faults.Memory) ⊎ PartsFail version parts (of_link e)
+link_fails version parts read rest e has h =
     elim h [
       | inl memory ↦ inl (ap of_link memory)
-      | inr fails ↦ inr (λ version. link read rest e has fails)
-    ]
-
--- what fails in each version fails in this one
-pub fails_in : (version : Version) (parts : List ℕ) (f : ImageFault)
-    → (f ≡ faults.Memory) ⊎ FailsInEach parts f → (f ≡ faults.Memory) ⊎ PartsFail version parts f
-fails_in version parts f h =
-    elim h [
-      | inl memory ↦ inl memory
-      | inr fails ↦ inr (fails version)
+      | inr fails ↦ inr (link read rest e has fails)
     ]
 
 pub regions_fail : (version : Version) (parts : List ℕ) (family : Family) (rest : List ℕ) (e : RegionsFault)

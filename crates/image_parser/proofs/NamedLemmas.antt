@@ -1,27 +1,30 @@
 -- What regions name and reach in the machine is what they name and reach in what is told of them.
-use Rattle.std.proofs.Common.{◌≡◌, ◌∙◌, ℕ, ◌+◌, ◌<◌, ◌≤◌, List, length, map, get_or, Option, Some, None}
-use Rattle.std.proofs.Common.{option_map, refl, sym, ap, subst, arith}
+use Rattle.std.proofs.Common.{◌≡◌, ◌∙◌, inl, inr, ℕ, ◌+◌, ◌<◌, ◌≤◌, List, length, map, get_or, take, Option, Some, None}
+use Rattle.std.proofs.Common.{is_some, slice_get, option_map, refl, sym, ap, subst, arith}
 use Rattle.std.specs.List.{All, range_with_len}
-use Rattle.std.proofs.lemmas.List.{length-map}
+use Rattle.std.proofs.lemmas.Bool.{cases_lt}
+use Rattle.std.proofs.lemmas.List.{length-map, length-take-le}
 use Rattle.std.proofs.lemmas.List.Elements.{All-map}
 use Rattle.std.proofs.lemmas.List.FromFn.{length-map-range_with_len, get_or-map-range_with_len}
-use Rattle.std.proofs.lemmas.Option.{get_or_from_slice_get, slice_get-get_or}
+use Rattle.std.proofs.lemmas.Option.{get_or_from_slice_get, slice_get-get_or, slice_get_within}
 use Rattle.std.proofs.Math.ListN.{get_or-map}
+use Rattle.vm_state.specs.declared.object.Object.{Object}
 use Rattle.vm_state.specs.declared.value.Value.{Value}
 use Rattle.vm_state.specs.declared.value.Value.TheVariants as machine
 use Rattle.vm_state.specs.SharedState.{Pool, Region}
 use Rattle.program.specs.Tables.{Tables, statics_in}
 use Rattle.region_shape.specs.declared.regions.Region.{Region as Held}
 use Rattle.region_shape.specs.Regions.{environment_of, region_in as held_in, region_of}
-use Rattle.image_format.specs.Images.{IsThere}
-use Rattle.image_format.specs.Objects.{region_in}
+use Rattle.object_graph.specs.Idle.{AreReachedOf, IsFirstIdle}
+use Rattle.image_format.specs.Images.{IsThere, NamesObjects}
+use Rattle.image_format.specs.Objects.{object_of, region_in}
 use Rattle.image_format.specs.Regions.{ImageObject, ImageRegion, KeptObject}
 use Rattle.image_format.specs.Values.{ImageValue}
 use Rattle.image_format.specs.Told.{told_object, told_objects, told_region, told_regions, told_value}
 use Rattle.image_format.proofs.RowsLemmas.{all_told, kept_is, told_at}
 use Rattle.object_graph.proofs.ToldReachedLemmas.{told_of_class, told_some}
 use Rattle.image_parser.specs.Nameless.{MarkNames}
-use Rattle.image_parser.specs.reading.Named.{ClassNames, FieldsName, MayName, NamesThere, PoolNames}
+use Rattle.image_parser.specs.reading.Named.{AllBelow, ClassNames, FieldsName, MayName, NamesThere, PoolNames}
 use Rattle.image_parser.specs.reading.Named.{SlotsName}
 
 module _ (P : Tables) (regions : List (Option Held))

@@ -23,30 +23,32 @@ use Rattle.loading.specs.ClassIds.{IsNamed, StandsFor, object_type, element_text
 use Rattle.loading.proofs.UniquenessLemmas.{one_class}
 use Rattle.program.specs.declared.runtime_constant.FieldKind.{FieldKind}
 use Rattle.program.specs.declared.runtime_constant.FieldKind.TheVariants as kinds
-use Rattle.program.specs.InstanceFields.{slots_of}
+use Rattle.program.specs.InstanceFields.{slots_of, static_kinds}
 use Rattle.image_format.specs.Values.{ImageValue}
 use Rattle.image_format.specs.Classes.{ImageClass}
 use Rattle.image_format.specs.Classes as image
-use Rattle.image_format.specs.Regions.{ImageObject}
+use Rattle.image_format.specs.Regions.{ImageObject, ImageRegion}
 use Rattle.image_format.specs.Elements.{kind_of_elements}
 use Rattle.image_format.specs.Names.{class_name, name_of_class}
-use Rattle.image_format.specs.Shapes.{Suits, KnownHasObjects, HasObjects, AreElements, AreSlots}
-use Rattle.image_format.specs.Texts.{value_text, element_text, named_text, parts_text}
+use Rattle.image_format.specs.Shapes.{Suits, KnownHasObjects, HasObjects, AreElements, AreSlots, ObjectHasShape}
+use Rattle.image_format.specs.Texts.{value_text, element_text, object_text, region_text, named_text, parts_text}
 use Rattle.image_format.specs.Texts.{array_text}
 use Rattle.image_parser.specs.declared.fault.RegionFault.{RegionFault}
 use Rattle.image_parser.specs.declared.fault.RegionFault.TheVariants as faults
-use Rattle.image_parser.specs.FirstFailing.{times}
-use Rattle.image_parser.specs.RegionFaults.{CutNumber, ValueFails, ElementFails, ElementsFail, known_form}
+use Rattle.image_parser.specs.FirstFailing.{EachFails, times}
+use Rattle.image_parser.specs.RegionFaults.{CutNumber, IsValue, ValueFails, ElementFails, ElementsFail, known_form}
 use Rattle.image_parser.specs.RegionFaults.{form_of, NameFails, IsName, NamesClass, IsObjectClass, ClassFails}
 use Rattle.image_parser.specs.RegionFaults.{ArrayFails}
-use Rattle.image_parser.specs.RegionFaults.{SlotsFail, ObjectFails, IsObject}
-use Rattle.image_parser.specs.reading.Results.{number_at}
+use Rattle.image_parser.specs.RegionFaults.{SlotsFail, ObjectFails, IsObject, ObjectsFail, AreStatics, RegionFails}
+use Rattle.image_parser.specs.RegionFaults.{IsRegion}
+use Rattle.image_parser.specs.reading.Results.{number_at, each_at}
 use Rattle.image_parser.specs.reading.Values.{value_at, element_at}
 use Rattle.image_parser.specs.reading.ClassNames.{class_of}
 use Rattle.image_parser.specs.reading.Unknown.{unknown_of}
 use Rattle.image_parser.specs.reading.Objects.{is_form, may_be, good_class, unknown_if, class_if, class_for, name_at}
 use Rattle.image_parser.specs.reading.Objects.{class_at, elements_at, count_at, array_at, slots_at, formed_at, form_at}
-use Rattle.image_parser.specs.reading.Objects.{object_at, object_of}
+use Rattle.image_parser.specs.reading.Objects.{object_at, object_of, region_of, objects_at, counted_region_at}
+use Rattle.image_parser.specs.reading.Objects.{region_at}
 use Rattle.image_parser.proofs.NumberLawful.{number_lawful, run_after_lawful}
 use Rattle.image_parser.proofs.EachLawful.{AllSpelled, each_lawful}
 use Rattle.image_parser.proofs.ValueLawful.{value_lawful, times_all, all_times}

@@ -1,7 +1,7 @@
 -- What is held of objects and regions that are read.
-use Rattle.std.proofs.Common.{◌≡◌, ◌∙◌, inl, inr, ℕ, ◌+◌, ◌<◌, ◌≤◌, List, [], ◌∷◌, ◌++◌}
-use Rattle.std.proofs.Common.{Option, Some, None, Result, Ok, refl, sym, ap, subst, arith, ltb}
-use Rattle.std.specs.List.{All}
+use Rattle.std.proofs.Common.{◌≡◌, ◌∙◌, ◌⊎◌, inl, inr, ℕ, zero, suc, ◌+◌, ◌<◌, ◌≤◌, true, false, List, [], ◌∷◌, ◌++◌}
+use Rattle.std.proofs.Common.{Option, Some, None, option_map, Result, Ok, refl, sym, ap, subst, arith, ltb}
+use Rattle.std.specs.List.{All, AllZip}
 use Rattle.std.proofs.lemmas.List.Elements.{All-head, All-tail}
 use Rattle.built_in.specs.declared.class_id.ArrayType.{ArrayType}
 use Rattle.built_in.specs.declared.class_id.ClassId.{ClassId}
@@ -32,9 +32,10 @@ use Rattle.image_format.specs.Shapes.{AreNumbered}
 use Rattle.image_format.specs.Values.{ImageValue}
 use Rattle.image_format.proofs.DroppedLemmas.{found_all}
 use Rattle.image_parser.specs.declared.fault.RegionFault.{RegionFault}
+use Rattle.image_parser.specs.reading.ClassNames.{class_of}
 use Rattle.image_parser.specs.reading.Held.{AddsStrings, HoldsAt, HoldsClass, HoldsElement, HoldsFields, HoldsKept}
 use Rattle.image_parser.specs.reading.Held.{HoldsNumber, HoldsObject, HoldsObjects, HoldsRegion, HoldsRow, HoldsType}
-use Rattle.image_parser.specs.reading.Held.{HoldsValues}
+use Rattle.image_parser.specs.reading.Held.{HoldsValue, HoldsValues}
 use Rattle.image_parser.specs.reading.Objects.{array_at, class_at, class_for, counted_region_at, formed_at, kept_at}
 use Rattle.image_parser.specs.reading.Objects.{kept_of, known_slots_at, many_at, name_at, object_at, object_number_at}
 use Rattle.image_parser.specs.reading.Objects.{object_of, objects_at, region_of, slots_at, so_many_at, unknown_if}

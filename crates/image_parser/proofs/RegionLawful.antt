@@ -1,6 +1,6 @@
 -- Readers of objects with their numbers, and of regions, are lawful.
-use Rattle.std.proofs.Common.{◌≡◌, ℕ, ◌+◌, ◌<◌, ◌≤◌, ◌^◌, true, false, ltb, not, tests, List, [], ◌∷◌, ◌++◌}
-use Rattle.std.proofs.Common.{length, Ok, refl}
+use Rattle.std.proofs.Common.{◌≡◌, ℕ, ◌+◌, ◌<◌, ◌≤◌, ◌^◌, Bool, true, false, ltb, not, tests, List, [], ◌∷◌, ◌++◌}
+use Rattle.std.proofs.Common.{length, Result, Ok, refl}
 use Rattle.std.proofs.Common.{sym, ap, subst, ◌∙◌, arith}
 use Rattle.std.specs.Bool.{Decides}
 use Rattle.std.specs.List.{All, flat_map}
@@ -9,21 +9,21 @@ use Rattle.std.proofs.lemmas.Bool.{and_parts, ltb-true, ltb-false, lt-ltb, le-lt
 use Rattle.std.proofs.lemmas.List.Elements.{All-nil, All-cons, All-tail}
 use Rattle.classfile.specs.Spelling.{u4}
 use Rattle.classfile.specs.Faults.{Either, Number}
-use Rattle.classfile.specs.FirstFault.{Ruled}
+use Rattle.classfile.specs.FirstFault.{Ruled, RuleFails}
 use Rattle.classfile.specs.reading.Numbers.{◌>>=◌}
-use Rattle.classfile.proofs.Lawful.{Lawful, Both, Mapped, wide32, pure_lawful, restated, then_lawful, map_lawful}
+use Rattle.classfile.proofs.Lawful.{Lawful, Both, Is, Mapped, wide32, pure_lawful, restated, then_lawful, map_lawful}
 use Rattle.classfile.proofs.RuleLawful.{append_equal, ruled_lawful}
 use Rattle.loading.specs.Families.{Family, IsFamily}
 use Rattle.program.specs.InstanceFields.{static_kinds}
-use Rattle.image_format.specs.Regions.{ImageRegion, KeptObject}
+use Rattle.image_format.specs.Regions.{ImageObject, ImageRegion, KeptObject}
 use Rattle.image_format.specs.declared.version.Version.{Version}
 use Rattle.image_format.specs.declared.version.Version.TheVariants as versions
-use Rattle.image_format.specs.Shapes.{Suits, ObjectHasShape, IsNumber, AreNumbered, AreSoMany}
+use Rattle.image_format.specs.Shapes.{Suits, ObjectHasShape, IsNumber, AreNumbered, AreSoMany, HasShape}
 use Rattle.image_format.specs.Texts.{value_text, object_text, number_text, kept_text, region_text}
 use Rattle.image_parser.specs.declared.fault.RegionFault.{RegionFault}
 use Rattle.image_parser.specs.declared.fault.RegionFault.TheVariants as faults
 use Rattle.image_parser.specs.FirstFailing.{EachFails}
-use Rattle.image_parser.specs.RegionFaults.{IsValue, ValueFails, ObjectFails, IsObject, IsNumberText}
+use Rattle.image_parser.specs.RegionFaults.{IsValue, ValueFails, CutNumber, ObjectFails, IsObject, IsNumberText}
 use Rattle.image_parser.specs.RegionFaults.{NumberFails, KeptFails, KeptFits, IsKept, above, ObjectsFail, IsMany}
 use Rattle.image_parser.specs.RegionFaults.{ManyFails, AreStatics, RegionFails, IsRegion}
 use Rattle.image_parser.specs.reading.Results.{number_at, each_at}

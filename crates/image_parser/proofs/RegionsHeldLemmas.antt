@@ -1,5 +1,5 @@
 -- Regions that hold what marks tell: what is wrong with them is what is wrong with what is told.
-use Rattle.std.proofs.Common.{◌≡◌, ◌∙◌, ◌⊎◌, inl, inr, ℕ, zero, suc, ◌<◌, ◌≤◌, List, [], ◌∷◌, length, get_or, take}
+use Rattle.std.proofs.Common.{◌≡◌, ◌∙◌, ◌⊎◌, inl, inr, ℕ, zero, suc, ◌+◌, ◌<◌, ◌≤◌, List, [], ◌∷◌, length, get_or, take}
 use Rattle.std.proofs.Common.{Option, Some, None, slice_get, Result, Ok, Err, IfOk, IfErr, refl, sym, ap, subst, arith}
 use Rattle.std.specs.List.{All}
 use Rattle.std.proofs.lemmas.List.Elements.{All-nil, All-cons}
@@ -7,7 +7,7 @@ use Rattle.std.proofs.lemmas.Option.{get_or_from_slice_get, slice_get-get_or, sl
 use Rattle.classfile.specs.Faults.{IsBytes}
 use Rattle.loading.specs.Families.{Family, IsFamily}
 use Rattle.vm_state.specs.declared.object.Object.{Object}
-use Rattle.vm_state.specs.SharedState.{Region}
+use Rattle.vm_state.specs.SharedState.{Pool, Region}
 use Rattle.semantics.specs.Quiet.{Environment}
 use Rattle.program.specs.Programs.{IsProgram}
 use Rattle.program.specs.Tables.{Tables}
@@ -26,13 +26,15 @@ use Rattle.image_format.specs.Shapes.{HasShape}
 use Rattle.image_format.specs.Told.{told_regions}
 use Rattle.object_graph.proofs.ToldReachedLemmas.{class_again, class_told}
 use Rattle.image_parser.specs.declared.fault.MarksFault.{MarksFault}
+use Rattle.image_parser.specs.declared.fault.MarksFault.TheVariants as marks_faults
 use Rattle.image_parser.specs.declared.fault.RegionsFault.{RegionsFault}
 use Rattle.image_parser.specs.declared.fault.RegionsFault.TheVariants as faults
-use Rattle.image_parser.specs.AllRegions.{RegionsFail}
+use Rattle.image_parser.specs.AllRegions.{RegionsFail, RegionsText}
 use Rattle.image_parser.specs.AllRegions.RegionsFail.{idle}
 use Rattle.image_parser.specs.Idle.{IsIdle}
-use Rattle.image_parser.specs.MarkFaults.{AreMarks, IsMarksFault, MarksFail}
+use Rattle.image_parser.specs.MarkFaults.{AreMarks, FailsIn, IsMarksFault, MarksFail}
 use Rattle.image_parser.specs.Nameless.{IsNameless, MarkNames}
+use Rattle.image_parser.specs.Regions.{Begins}
 use Rattle.image_parser.specs.reading.Held.{HoldsRegions}
 use Rattle.image_parser.specs.reading.Marked.{AreHeld, IsIdleFault, NeedsReached, RegionsHeld}
 use Rattle.image_parser.specs.reading.Marked.IsIdleFault.{idle as first_idle}

@@ -1,7 +1,9 @@
 -- Where the strings that there are tell all that is told, none comes in; and what is told has one way to be held.
-use Rattle.std.proofs.Common.{◌≡◌, ◌∙◌, ◌⊎◌, inl, inr, ℕ, suc, List, [], ◌∷◌, ◌++◌, length}
+use Rattle.std.proofs.Common.{◌≡◌, ◌∙◌, ◌⊎◌, inl, inr, ℕ, zero, suc, ◌<◌, List, [], ◌∷◌, ◌++◌, length, get_or}
 use Rattle.std.proofs.Common.{Option, Some, None, slice_get, refl, sym, ap, ap₂, subst, arith}
+use Rattle.std.specs.Prelude.{Result, Ok, Err, OnOk}
 use Rattle.std.proofs.Math.Path.{fun_ext}
+use Rattle.std.specs.List.{All}
 use Rattle.std.proofs.lemmas.Option.{slice_get_within}
 use Rattle.classfile.specs.Units.{units_text}
 use Rattle.built_in.specs.declared.class_id.ClassId.{ClassId}
@@ -27,7 +29,7 @@ use Rattle.image_format.specs.Values as values
 use Rattle.image_format.specs.Regions.{KeptObject}
 use Rattle.image_format.specs.Objects.{region_in, object_with}
 use Rattle.image_parser.specs.reading.Held.{HoldsValue, HoldsValues, HoldsField, HoldsFields, HoldsType}
-use Rattle.image_parser.specs.reading.Held.{HoldsObject, HoldsNumber, HoldsObjects, HoldsClass}
+use Rattle.image_parser.specs.reading.Held.{HoldsObject, HoldsNumber, HoldsAt, HoldsObjects, HoldsRegion, HoldsClass}
 use Rattle.image_parser.specs.reading.Held.{HoldsArray, HoldsElement, HoldsRegions}
 use Rattle.image_parser.proofs.HeldLemmas.{at_front, last_at}
 

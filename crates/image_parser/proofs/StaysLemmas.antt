@@ -1,4 +1,5 @@
 -- What stays held as strings come in.
+use Rattle.vm_state.specs.declared.object.Object.{Object}
 use Rattle.image_parser.specs.reading.Held.{HoldsKept, HoldsValue}
 use Rattle.image_parser.proofs.HeldLemmas.{object_kept, value_kept}
 use Rattle.image_parser.proofs.ReadsLemmas.{Stays}

@@ -15,6 +15,7 @@ use Rattle.classfile.specs.Units.{IsModifiedUtf8}
 use Rattle.classfile.specs.reading.Modified.{is_modified}
 use Rattle.classfile.proofs.UnitsLemmas.{modified_is, modified_passes}
 use Rattle.built_in.specs.ClassNames.{name_of_built_in}
+use Rattle.built_in.specs.declared.class_id.BuiltIn.{BuiltIn}
 use Rattle.built_in.specs.declared.class_id.ClassId.{ClassId}
 use Rattle.built_in.specs.declared.class_id.ClassId.TheVariants as classes
 use Rattle.built_in.specs.declared.class_id.ElementType.{ElementType}

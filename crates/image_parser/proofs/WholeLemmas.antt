@@ -4,11 +4,11 @@ use Rattle.std.proofs.Common.{true, false, List, [], ◌∷◌, ◌++◌, length
 use Rattle.std.proofs.Common.{is_some, slice_get, option_map, unwrap_or, refl, sym, ap, subst, arith, ltb, leb}
 use Rattle.std.proofs.Common.{length-append, eqb-true}
 use Rattle.std.specs.Prelude.{int_le}
-use Rattle.std.specs.List.{All, AllByRecursion, AllZip}
+use Rattle.std.specs.List.{All, AllByRecursion, AllZip, Contains}
 use Rattle.std.proofs.lemmas.Bool.{and_parts, lt-ltb, leb-true, le-leb}
 use Rattle.std.proofs.lemmas.List.{length-replicate}
 use Rattle.std.proofs.lemmas.List.Elements.{All-head, All-tail}
-use Rattle.std.proofs.lemmas.Option.{slice_get_within}
+use Rattle.std.proofs.lemmas.Option.{slice_get_within, slice_get-get_or}
 use Rattle.std.proofs.lemmas.Slice.Zip.{AllZip-long}
 use Rattle.classfile.specs.Units.{units_text}
 use Rattle.built_in.specs.declared.class_id.ArrayType.{ArrayType}
@@ -32,7 +32,7 @@ use Rattle.program.specs.declared.runtime_constant.FieldKind.{FieldKind}
 use Rattle.program.specs.declared.runtime_constant.FieldKind.TheVariants as kinds
 use Rattle.program.specs.Arrays.{is_array_class, is_name}
 use Rattle.program.specs.InstanceFields.{static_kinds, slots_of}
-use Rattle.program.specs.Tables.{Tables}
+use Rattle.program.specs.Tables.{Tables, statics_in}
 use Rattle.machine.specs.Arrays.{kind_of_component, kind_of_element}
 use Rattle.machine.proofs.ListLemmas.{right_of_pair}
 use Rattle.region_shape.specs.Suits.{suits}
@@ -52,7 +52,7 @@ use Rattle.image_format.specs.Elements.{kind_of_type, kind_of_elements}
 use Rattle.image_format.specs.Names.{class_name, name_of_class}
 use Rattle.image_format.specs.declared.version.Version.{Version}
 use Rattle.image_format.specs.Images.{AreRegions, IsThere}
-use Rattle.image_format.specs.Objects.{region_in, objects_of, object_with, object_of}
+use Rattle.image_format.specs.Objects.{region_in, statics_of, objects_of, object_with, object_of}
 use Rattle.image_format.proofs.RowsLemmas.{kept_is, none_past}
 use Rattle.image_format.specs.Shapes.{Suits, IsArrayType, IsArrayOfUnknown, HasObjects, KnownHasObjects, AreSlots}
 use Rattle.image_format.specs.Shapes.{AreKnownSlots, ObjectHasShape, HasShape, has_objects, has_values}

@@ -1,19 +1,21 @@
 //! Whole images.
 
-ghost use Rattle.std.specs.Prelude.{◌≡◌, ◌≤◌, ◌⊎◌, List, Option, ℕ, length, take, drop, IfOk, IfErr};
+ghost use Rattle.std.specs.Prelude.{◌≡◌, ◌≤◌, ◌⊎◌, List, Option, ℕ, length, take, drop, IfOk, IfErr, MatchResult};
 ghost use Rattle.std.specs.Bool.{Decides};
 ghost use Rattle.std.specs.Int.{w32, from_be_bytes};
 ghost use Rattle.classfile.specs.Faults.{IsBytes};
 ghost use Rattle.loading.specs.Families.{Family as Classes};
 ghost use Rattle.program.specs.Programs.{HasOwnStrings, IsProgram};
 ghost use Rattle.image_format.specs.Regions.{ImageRegion as Told};
+ghost use Rattle.image_format.specs.declared.version.Version.{Version as Format};
 ghost use Rattle.image_format.specs.Images.{ImageText, OldText, VersionText};
+ghost use Rattle.image_parser.specs.declared.image_fault.ImageFault.{ImageFault as Fault};
 ghost use Rattle.image_parser.specs.declared.image_fault.ImageFault.TheVariants.{Memory};
 ghost use Rattle.image_parser.specs.HeaderFaults.{IsSealed};
-ghost use Rattle.image_parser.specs.ImageFaults.{ImageFails, IsImage, IsLinked, PartsFail};
+ghost use Rattle.image_parser.specs.ImageFaults.{Answers, HasFiles, ImageFails, IsImage, IsLinked, PartsFail};
 ghost use Rattle.image_parser.specs.ImageFaults.{PartsText};
 ghost use Rattle.image_parser.specs.TextOrFault.{TextOrFault};
-ghost use Rattle.image_parser.specs.reading.Frames.{FailsInEach, IsUnsealed};
+ghost use Rattle.image_parser.specs.reading.Frames.{IsUnsealed};
 ghost use Rattle.image_parser.specs.Parsings.{IsOfFiles, IsParsed, told_in};
 
 use crate::files::read_files;
@@ -21,6 +23,7 @@ use crate::header::{is_sealed, parts_of, unsealed_parts};
 use crate::image_fault::ImageFault;
 use crate::regions::read_regions;
 use byteorder::{BigEndian, ByteOrder};
+use classfile::ClassFile;
 use image_format::version::Version;
 use program::{Program, link};
 use region_shape::regions::Regions;
@@ -101,8 +104,7 @@ fn of_bytes_by_two<R: Threads>(rt: &R, alloc: Global, bytes: &[u8]) -> Result<Pa
     }
 }
 
-/// What the bytes of an image say that has these parts, at whose digest another thread looks while its class files are
-/// linked. Regions are read once it is known to be right: their strings are hashed by it.
+/// What the bytes of an image say that has these parts, while another thread looks at its digest.
 fn of_unsealed<R: Threads>(
     rt: &R,
     alloc: Global,
@@ -116,19 +118,21 @@ fn of_unsealed<R: Threads>(
     ensures files { IfOk result (λ parsed. IsOfFiles parsed.program parsed.regions) }
     ensures fault { IfErr result (λ x. (x ≡ Memory) ⊎ ImageFails bytes.now x) }
 {
+    let digest = digest_of(bytes);
     let seal = move || -> bool
         ensures { Decides result (IsSealed bytes.entry.now) }
     { is_sealed(bytes) };
-    let link = move || -> Result<(Program, &[u8]), ImageFault>
+    let read = move || -> Result<Parsed, ImageFault>
         requires { 4 ≤ length parts.now }
-        ensures linked { IfOk result (λ x. IsLinked parts.entry.now x.0.family x.1.now) }
-        ensures program { IfOk result (λ x. IsProgram x.0) }
-        ensures own_strings { IfOk result (λ x. HasOwnStrings x.0) }
-        ensures fault { IfErr result (λ x. (x ≡ Memory) ⊎ FailsInEach parts.entry.now x) }
-    { program_at(alloc, parts) };
-    let (is_sealed, linked) = thread::join(rt, seal, link);
+        ensures text { IfOk result (λ parsed. (parsed.version ≡ version)
+            × PartsText version parts.entry.now parsed.program.family (told_in parsed)) }
+        ensures program { IfOk result (λ parsed. IsProgram parsed.program) }
+        ensures files { IfOk result (λ parsed. IsOfFiles parsed.program parsed.regions) }
+        ensures fault { IfErr result (λ x. (x ≡ Memory) ⊎ PartsFail version parts.entry.now x) }
+    { of_parts(alloc, version, parts, digest) };
+    let (is_sealed, parsed) = thread::join(rt, seal, read);
     if is_sealed {
-        of_linked(alloc, version, linked, parts, digest_of(bytes))
+        parsed
     } else {
         Err(ImageFault::Digest)
     }
@@ -142,24 +146,6 @@ fn count_at(parts: &[u8]) -> (u32, &[u8])
 {
     let (front, rest) = parts.split_at(4);
     (BigEndian::read_u32(front), rest)
-}
-
-/// The linked program of the class files at the front of an image's parts, and what stands after them.
-fn program_at(alloc: Global, parts: &[u8]) -> Result<(Program, &[u8]), ImageFault>
-    requires { 4 ≤ length parts.now }
-    ensures linked { IfOk result (λ x. IsLinked parts.now x.0.family x.1.now) }
-    ensures program { IfOk result (λ x. IsProgram x.0) }
-    ensures own_strings { IfOk result (λ x. HasOwnStrings x.0) }
-    ensures fault { IfErr result (λ x. (x ≡ Memory) ⊎ FailsInEach parts.now x) }
-{
-    let (count, bytes) = count_at(parts);
-    match read_files(alloc, count, bytes) {
-        Ok((files, rest)) => match link(alloc, files) {
-            Ok(program) => Ok((program, rest)),
-            Err(fault) => Err(ImageFault::of_link(fault)),
-        },
-        Err(fault) => Err(ImageFault::of_files(fault)),
-    }
 }
 
 /// What the parts of an image say.
@@ -176,31 +162,32 @@ fn of_parts(
     ensures files { IfOk result (λ parsed. IsOfFiles parsed.program parsed.regions) }
     ensures fault { IfErr result (λ x. (x ≡ Memory) ⊎ PartsFail version parts.now x) }
 {
-    let linked = program_at(alloc, parts);
-    of_linked(alloc, version, linked, parts, digest)
+    let (count, bytes) = count_at(parts);
+    match read_files(alloc, count, bytes) {
+        Ok((files, rest)) => of_files(alloc, version, files, parts, rest, digest),
+        Err(fault) => Err(ImageFault::of_files(fault)),
+    }
 }
 
-/// What the parts of an image say at whose front this was found.
-fn of_linked(
+/// What the parts of an image say that begin with these class files.
+fn of_files(
     alloc: Global,
     version: Version,
-    linked: Result<(Program, &[u8]), ImageFault>,
+    files: Vec<ClassFile>,
     parts: &[u8],
+    rest: &[u8],
     digest: &[u8],
 ) -> Result<Parsed, ImageFault>
-    requires linked { IfOk linked (λ x. IsLinked parts.now x.0.family x.1.now) }
-    requires program { IfOk linked (λ x. IsProgram x.0) }
-    requires own_strings { IfOk linked (λ x. HasOwnStrings x.0) }
-    requires fault { IfErr linked (λ x. (x ≡ Memory) ⊎ FailsInEach parts.now x) }
+    requires { HasFiles parts.now files.items rest.now }
     ensures text { IfOk result (λ parsed. (parsed.version ≡ version)
         × PartsText version parts.now parsed.program.family (told_in parsed)) }
     ensures program { IfOk result (λ parsed. IsProgram parsed.program) }
     ensures files { IfOk result (λ parsed. IsOfFiles parsed.program parsed.regions) }
     ensures fault { IfErr result (λ x. (x ≡ Memory) ⊎ PartsFail version parts.now x) }
 {
-    match linked {
-        Ok((program, rest)) => of_program(alloc, version, program, parts, rest, digest),
-        Err(fault) => Err(fault),
+    match link(alloc, files) {
+        Ok(program) => of_program(alloc, version, program, parts, rest, digest),
+        Err(fault) => Err(ImageFault::of_link(fault)),
     }
 }
 

@@ -9,7 +9,7 @@ ghost use Rattle.image_format.specs.declared.version.Version.TheVariants.{Two};
 ghost use Rattle.image_format.specs.Shapes.{IsNumber, AreSoMany};
 ghost use Rattle.image_parser.specs.RegionFaults.{above};
 ghost use Rattle.image_parser.specs.reading.Held.{HoldsFields, HoldsKept, HoldsObjects, HoldsRegion, HoldsRow};
-ghost use Rattle.image_parser.specs.reading.Objects.{counted_region_at, kept_at, many_at, object_number_at};
+ghost use Rattle.image_parser.specs.reading.Objects.{counted_region_at, is_number, kept_at, many_at, object_number_at};
 ghost use Rattle.image_parser.specs.reading.Objects.{objects_at, region_at, so_many_at};
 ghost use Rattle.image_parser.specs.reading.Reads.{Reads};
 ghost use Rattle.image_parser.specs.reading.Results.{Gives, chain_at, each_at};

@@ -3,7 +3,7 @@
 ghost use Rattle.std.specs.Prelude.{◌≡◌, ◌++◌, ◌∷◌, [], ℕ, List, Option, IfOk, IfErr, OnOk, length, option_map};
 ghost use Rattle.region_shape.specs.Regions.{environment_of, region_of};
 ghost use Rattle.image_format.specs.Regions.{ImageRegion as Told};
-ghost use Rattle.image_parser.specs.MarkFaults.{numbers, MarksFail, IsMarksFault};
+ghost use Rattle.image_parser.specs.MarkFaults.{numbers, AreMarks, MarksFail, IsMarksFault};
 ghost use Rattle.image_parser.specs.reading.Held.{HoldsClass, HoldsRegions};
 ghost use Rattle.image_parser.specs.reading.Marked.{AreHeld};
 ghost use Rattle.image_parser.specs.reading.Marks.{marked_at, mark_at, mark_in, marks_at};

@@ -4,6 +4,7 @@ ghost use Rattle.std.specs.Prelude.{◌≡◌, length, MatchOption};
 ghost use Rattle.std.specs.Bool.{Decides};
 ghost use Rattle.vm_state.specs.Pools.{pool_by};
 ghost use Rattle.vm_state.specs.Statics.{field_in};
+ghost use Rattle.program.specs.Tables.{statics_in};
 ghost use Rattle.image_parser.specs.reading.Named.{AllBelow, ClassNames, FieldsName, IsFirstNameless, KeptNames};
 ghost use Rattle.image_parser.specs.reading.Named.{NamesThere, PoolNames, RegionNames, SlotNames, SlotsName, is_there};
 

@@ -1,5 +1,6 @@
 //! Numbers and runs of bytes at the front of what is left.
 
+ghost use Rattle.std.specs.Prelude.{◌≡◌};
 ghost use Rattle.std.specs.Int.{w8, w16, w32, w64};
 ghost use Rattle.image_parser.specs.reading.Results.{Gives, number_at, run_at};
 

@@ -4,15 +4,16 @@ ghost use Rattle.std.specs.Prelude.{◌≡◌, [], ◌<◌, ◌^◌, length, IfO
 ghost use Rattle.classfile.specs.Units.{IsModifiedUtf8};
 ghost use Rattle.built_in.specs.declared.class_id.ElementType.{ElementType as Element};
 ghost use Rattle.built_in.specs.declared.class_id.ElementType.TheVariants.{Unknown};
+ghost use Rattle.loading.specs.Families.{IsFamily};
 ghost use Rattle.image_format.specs.Elements.{kind_of_elements};
 ghost use Rattle.image_format.specs.Shapes.{has_objects, has_values};
 ghost use Rattle.image_parser.specs.reading.ClassNames.{class_of};
 ghost use Rattle.image_parser.specs.reading.Held.{AddsStrings, HoldsElement, HoldsObject, HoldsType, HoldsValues};
 ghost use Rattle.image_parser.specs.reading.Objects.{array_at, class_at, class_for, count_at, elements_at, form_at};
-ghost use Rattle.image_parser.specs.reading.Objects.{formed_at, is_form, known_if, known_slots_at, may_be};
+ghost use Rattle.image_parser.specs.reading.Objects.{formed_at, good_class, is_form, known_if, known_slots_at, may_be};
 ghost use Rattle.image_parser.specs.reading.Objects.{name_at, object_at, unknown_if};
 ghost use Rattle.image_parser.specs.reading.Reads.{Makes, Reads};
-ghost use Rattle.image_parser.specs.reading.Results.{Gives, each_at};
+ghost use Rattle.image_parser.specs.reading.Results.{Gives, each_at, number_at};
 ghost use Rattle.image_parser.specs.reading.Unknown.{unknown_of};
 ghost use Rattle.image_parser.specs.reading.Values.{value_at};
 

@@ -1,5 +1,6 @@
 -- An image that is gathered from what a text of version 1 says, and read again from its own text.
-use Rattle.std.proofs.Common.{◌≡◌, ℕ, List, Ok, sym, subst, arith}
+use Rattle.std.proofs.Common.{◌≡◌, ℕ, List, Option, Ok, sym, subst, arith}
+use Rattle.vm_state.specs.SharedState.{Region}
 use Rattle.semantics.specs.Quiet.{Environment}
 use Rattle.program.specs.Programs.{IsProgram}
 use Rattle.program.specs.Tables.{Tables}
@@ -11,6 +12,7 @@ use Rattle.object_graph.proofs.ProgramsLemmas.{class_count}
 use Rattle.image_format.specs.declared.version.Version.TheVariants as versions
 use Rattle.image_format.specs.Images.{ImageText}
 use Rattle.image_format.specs.Reached.{IsDropped}
+use Rattle.image_format.specs.Regions.{ImageRegion}
 use Rattle.image_format.specs.Told.{told_regions}
 use Rattle.image_writer.specs.ImageTexts.{text_of, told_of}
 use Rattle.image_parser.specs.declared.image.Parsed.{Parsed}

@@ -6,7 +6,7 @@ use program::Program;
 use region_shape::show_from_files;
 
 /// It has the tables of class files. It looks at each class once.
-pub(crate) fn show_files(program: &Program)
+pub(crate) fn has_files(program: &Program)
     ensures { HasFiles program.now }
 {
     show_from_files(program);

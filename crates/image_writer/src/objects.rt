@@ -12,7 +12,7 @@ ghost use Rattle.image_format.specs.Told.{told_value, told_array, told_class, to
 ghost use Rattle.image_format.specs.Told.{told_region, told_regions};
 ghost use Rattle.image_writer.specs.steps.Sizes.{HasFiles, IsSizedValue, IsSizedObject, IsSizedRegion, object_by};
 
-use crate::files::show_files;
+use crate::files::has_files;
 use crate::numbers::{push_named, push_u8, push_u32};
 use crate::values::{push_elements, push_fields, push_values, string_of};
 use built_in::class_id::{ArrayType, ClassId, ElementType};
@@ -232,7 +232,7 @@ pub(crate) fn push_marks(alloc: Global, out: &mut Vec<u8>, image: &Image) -> Res
     ensures { OnOk result (out.new.items ≡ out.old.items ++ flat_map (mark_text Two image.now.program.family)
         (told_regions image.now.program (environment_of image.now.regions))) }
 {
-    show_files(image.program());
+    has_files(image.program());
     let classes = image.program().family().classes();
     push_marks_below(alloc, out, image, classes.len() as u32)
 }

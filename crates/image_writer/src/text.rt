@@ -12,8 +12,8 @@ ghost use Rattle.image_format.specs.Images.{AreShort, ImageText};
 ghost use Rattle.image_format.specs.Told.{told_regions};
 ghost use Rattle.image_writer.specs.ImageTexts.{text_of, told_of};
 
-use crate::files::show_files;
-use crate::fitting::show_classes_fit;
+use crate::files::has_files;
+use crate::fitting::classes_fit;
 use crate::numbers::{push_u16, push_u32};
 use crate::objects::push_marks;
 use classfile::ClassFile;
@@ -97,13 +97,13 @@ fn push_digest(out: &mut Vec<u8>) -> Result<(), AllocError>
 }
 
 /// The text of an image is one of it.
-fn show_text(image: &Image)
+fn is_text_of(image: &Image)
     requires { AreShort image.now.program.family }
     ensures { ImageText (text_of image.now) image.now.program.family (told_of image.now) }
 {
     image.program().links();
-    show_files(image.program());
-    show_classes_fit(image);
+    has_files(image.program());
+    classes_fit(image);
     let _classes = image.program().family().classes();
     let _region = image.region(0);
 }
@@ -118,7 +118,7 @@ pub fn image_text(alloc: Global, image: &Image) -> Result<Vec<u8>, AllocError>
     // It is the text of an image: that of these class files, which make one program, and of these regions.
     ensures image { ImageText (text_of image.now) image.now.program.family (told_of image.now) }
 {
-    show_text(image);
+    is_text_of(image);
     let mut out = Vec::with_capacity(alloc, room_for(image))?;
     push_body(alloc, &mut out, image)?;
     push_digest(&mut out)?;

@@ -15,7 +15,7 @@ use Rattle.initializer_analysis.specs.Least.{IsFirst, AreLeast, IsOf}
 use Rattle.initializer_analysis.specs.steps.LeastReached.{no_labels, AreLeastReached}
 use Rattle.initializer_analysis.specs.steps.Marking.{HasLeastOf}
 use Rattle.initializer_analysis.proofs.LeastLemmas.{AreLeast-same, AreLeast-of_joined, Stands, Stands-least}
-use Rattle.initializer_analysis.proofs.JoinedLemmas.{AreLeast-of_own}
+use Rattle.initializer_analysis.proofs.SettledLemmas.{AreLeast-of_own}
 
 -- ---- some things
 

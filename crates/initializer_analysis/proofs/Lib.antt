@@ -1,5 +1,5 @@
 pub mod LeastLemmas
-pub mod JoinedLemmas
+pub mod SettledLemmas
 pub mod RaisedLemmas
 pub mod VertexTablesLemmas
 pub mod VerdictsLemmas

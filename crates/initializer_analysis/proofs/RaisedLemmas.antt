@@ -14,9 +14,9 @@ use Rattle.graph.proofs.OrderLemmas.{place_of_member, has_vertex}
 use Rattle.graph.proofs.ReachesLemmas.{Reaches-joined}
 use Rattle.graph.proofs.RowsLemmas.{has_successor}
 use Rattle.initializer_analysis.specs.steps.Heights.{AreHeights}
-use Rattle.initializer_analysis.specs.steps.Joined.{IsBeyond}
+use Rattle.initializer_analysis.specs.steps.Settled.{IsBeyond}
 use Rattle.initializer_analysis.specs.steps.Raised.{HaveMarked, top_of, IsHighest, AreRaisedFrom}
-use Rattle.initializer_analysis.proofs.JoinedLemmas.{front_more, front_last, front_cases}
+use Rattle.initializer_analysis.proofs.SettledLemmas.{front_more, front_last, front_cases}
 
 less_or : (m n : ℕ) → (m < n) ⊎ (n ≤ m)
 less_or m n = grind arith

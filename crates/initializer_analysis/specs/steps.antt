@@ -1,7 +1,7 @@
 pub mod LeastReached
 pub mod Heights
 pub mod OwnReasons
-pub mod Joined
+pub mod Settled
 pub mod Raised
 pub mod Marking
 pub mod RefusedUses

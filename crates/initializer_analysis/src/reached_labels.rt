@@ -6,7 +6,7 @@ ghost use Rattle.graph.specs.Components.{AreComponents};
 ghost use Rattle.graph.specs.Rows.{successors_of};
 ghost use Rattle.initializer_analysis.specs.Least.{AreLeast};
 ghost use Rattle.initializer_analysis.specs.steps.LeastReached.{no_labels, IsOwn, AreLeastReached};
-ghost use Rattle.initializer_analysis.specs.steps.Joined.{IsBeyondLabel, AreJoinedFrom};
+ghost use Rattle.initializer_analysis.specs.steps.Settled.{IsBeyondLabel, AreSettledFrom};
 
 use crate::labels::Least;
 use crate::vertex_tables::by_vertex;
@@ -30,7 +30,7 @@ fn beyond(row: &[usize], components: &Components, number: usize, table: &[Least]
 }
 
 /// The least labels of a vertex's component, as far as a table has them, and those that this vertex adds.
-fn joined_labels(
+fn settled(
     graph: &Graph,
     components: &Components,
     own: &[Least],
@@ -51,19 +51,19 @@ fn joined_labels(
     table[number].join(own[vertex]).join(others)
 }
 
-/// Joins the labels of all components, from the last vertex of their order to the first.
-fn join_all(graph: &Graph, components: &Components, own: &[Least], table: &mut [Least])
+/// Settles the labels of all components, from the last vertex of their order to the first.
+fn settle_all(graph: &Graph, components: &Components, own: &[Least], table: &mut [Least])
     requires components { AreComponents graph.now components.now }
     requires own { length own.now ≡ length graph.now }
     requires table { table.old ≡ replicate (length graph.now) no_labels }
-    ensures { AreJoinedFrom graph.now components.now own.now 0 table.new }
+    ensures { AreSettledFrom graph.now components.now own.now 0 table.new }
 {
     let order = components.order();
     let mut place = order.len();
     while place > 0 {
         place -= 1;
         let vertex = order[place];
-        let labels = joined_labels(graph, components, own, vertex, table);
+        let labels = settled(graph, components, own, vertex, table);
         table[components.number(vertex)] = labels;
     }
 }
@@ -84,6 +84,6 @@ pub(crate) fn least_reached(
     ensures least { IfOk result (λ least. AreLeastReached graph.now own.now least.items) }
 {
     let mut table = vec![in alloc; Least::none(); components.len()]?;
-    join_all(graph, components, own, table.as_mut_slice());
+    settle_all(graph, components, own, table.as_mut_slice());
     by_vertex(alloc, components, table.as_slice())
 }

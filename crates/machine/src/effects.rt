@@ -1,12 +1,12 @@
 //! One instruction of a thread.
 
-ghost use Rattle.std.specs.Prelude.{◌≡◌, ◌∷◌, ◌++◌, [], ℕ, List, IfOk, OnOk, OnErr, IsSome, Some, None, Ok};
+ghost use Rattle.std.specs.Prelude.{◌≡◌, ◌∷◌, ◌++◌, [], ℕ, List, Option, IfOk, OnOk, OnErr, IsSome, Some, None, Ok};
 ghost use Rattle.vm_state.specs.declared.frame.Frame.{Frame};
 ghost use Rattle.vm_state.specs.Output.{Print};
 ghost use Rattle.vm_state.specs.Shares.{shared_of, SharesTheSame};
 ghost use Rattle.vm_state.specs.Stacks.{levels_of};
 ghost use Rattle.program.specs.Tables.{Tables};
-ghost use Rattle.semantics.specs.Moves.{advanced, received, unwound, with_operands, Throw};
+ghost use Rattle.semantics.specs.Moves.{advanced, unwound, with_operands, Throw};
 ghost use Rattle.machine.specs.Linked.{program_of};
 ghost use Rattle.semantics.specs.Rows.{Moved, Next, Raise, Returns, Result as Led, run_row};
 ghost use Rattle.semantics.specs.Steps.{maker_of};
@@ -23,6 +23,7 @@ ghost use Rattle.machine.specs.Effects.{HasPrinted, IsEmpty, IsStep, IsStopped, 
 
 use crate::execute::execute;
 use crate::kinds::{Actor, Conclusion, Effect, Stop};
+use crate::moving::{NoReturn, call, leave};
 use crate::unwinding::{Unwound, unwind};
 use built_in::class_id::ClassId;
 use frame_instructions::numeric::advance;
@@ -35,7 +36,7 @@ use vm_state::output::Output;
 use vm_state::shared::Shared;
 use vm_state::spares::Spares;
 use vm_state::text::Text;
-use vm_state::value::{Fault, Maker, Name, Value};
+use vm_state::value::{Maker, Name, Value};
 
 /// Who executes the instructions of a thread. Its objects are counted by the class of its highest initialization, or by
 /// the thread.
@@ -58,23 +59,6 @@ fn maker_of(frames: &Frames) -> Maker
     }
 }
 
-/// After a call, with the value returned on the operand stack.
-///
-/// # Errors
-/// `Fault`, and nothing changed, where that has no room.
-#[inline(always)]
-pub fn receive(frame: &mut Frame, value: Option<Value>) -> Result<(), Fault>
-    ensures ok { OnOk result (received value frame.old ≡ Some frame.new) }
-    ensures err { OnErr result (received value frame.old ≡ None) }
-    ensures same { OnErr result (frame.new ≡ frame.old) }
-{
-    if let Some(value) = value {
-        frame.cells.push(value)?;
-    }
-    advance(frame);
-    Ok(())
-}
-
 /// Ends a thread: nothing is left of its stack.
 fn halt(frames: &mut Frames, end: End) -> Effect
     ensures effect { result ≡ Effect.Halt end }
@@ -86,34 +70,49 @@ fn halt(frames: &mut Frames, end: End) -> Effect
     Effect::Halt(end)
 }
 
-/// Returns to the caller, where there is one above the highest initialization.
-fn return_to(frames: &mut Frames, callers: FrameList, value: Option<Value>) -> Effect
-    ensures step { (P : Tables) (f : Frame) (before after : SharedState)
-        → IsStep P frames.old.thread (f ∷ callers) (levels_of frames.old) before (Moved (Next (Returns value)) after)
-        result frames.new after }
+/// Puts frames back that were taken.
+fn stand(frames: &mut Frames, segment: Segment)
+    ensures { frames.new ≡ record frames.old { segment = Some segment } }
+{
+    frames.segment = Some(segment);
+}
+
+/// Returns where there is no caller above the highest initialization: to that, or the thread has returned.
+fn return_last(frames: &mut Frames) -> Effect
+    ensures step { (P : Tables) (f : Frame) (value : Option Value) (before after : SharedState)
+        → IsStep P frames.old.thread (f ∷ []) (levels_of frames.old) before (Moved (Next (Returns value)) after) result
+        frames.new after }
     ensures moves { ((old new : Frames) → Stays result old new)
         × ((before after : SharedTables) → Stays result before after) }
     ensures silent { PrintsNothing result }
     ensures thread { frames.new.thread ≡ frames.old.thread }
 {
-    frames.segment = callers.into_segment();
-    match &mut frames.segment {
-        Some(segment) => match receive(&mut segment.innermost, value) {
-            Ok(()) => Effect::Next,
-            Err(Fault) => halt(frames, End::Faulted(FaultKind::Fault)),
-        },
-        None => match &frames.levels {
-            Some(_) => Effect::Next,
-            None => halt(frames, End::Returned),
-        },
+    if frames.levels.is_none() {
+        return halt(frames, End::Returned);
     }
+    frames.segment = None;
+    Effect::Next
 }
 
-/// Goes on in a frame, with its callers.
-fn stand(frames: &mut Frames, innermost: Frame, callers: FrameList)
-    ensures { frames.new ≡ record frames.old { segment = Some (record { innermost = innermost; callers = callers }) } }
+/// Returns to the caller, where there is one above the highest initialization.
+fn return_to(frames: &mut Frames, segment: Segment, value: Option<Value>) -> Effect
+    ensures step { (P : Tables) (f : Frame) (before after : SharedState)
+        → IsStep P frames.old.thread (f ∷ segment.callers) (levels_of frames.old) before
+        (Moved (Next (Returns value)) after) result frames.new after }
+    ensures moves { ((old new : Frames) → Stays result old new)
+        × ((before after : SharedTables) → Stays result before after) }
+    ensures silent { PrintsNothing result }
+    ensures thread { frames.new.thread ≡ frames.old.thread }
 {
-    frames.segment = Some(Segment { innermost, callers });
+    let mut segment = segment;
+    match leave(&mut segment, value) {
+        Ok(_) => {
+            stand(frames, segment);
+            Effect::Next
+        }
+        Err(NoReturn::NoRoom) => halt(frames, End::Faulted(FaultKind::Fault)),
+        Err(NoReturn::NoCaller) => return_last(frames),
+    }
 }
 
 /// An exception that no frame above the highest initialization catches: it becomes pending there, and where there is
@@ -154,7 +153,8 @@ fn throw(
 {
     match unwind(program, frame, callers, exception, class) {
         Unwound::Caught(frame, callers) => {
-            stand(frames, frame, callers);
+            let innermost = frame;
+            stand(frames, Segment { innermost, callers });
             Effect::Raise
         }
         Unwound::NoRoom => halt(frames, End::Faulted(FaultKind::Fault)),
@@ -166,10 +166,9 @@ fn throw(
 ///
 /// # Errors
 /// `AllocError` where memory is refused: then the stack is as it was.
-fn call(
+fn enter(
     frames: &mut Frames,
-    frame: Frame,
-    callers: FrameList,
+    segment: Segment,
     callee: Frame,
     arguments: usize,
 ) -> Result<Effect, AllocError>
@@ -177,23 +176,18 @@ fn call(
         (frames.new ≡ record frames.old {
           segment = Some (record {
             innermost = callee;
-            callers = with_operands frame (dropped arguments frame.operands) ∷ callers;
+            callers = with_operands segment.innermost (dropped arguments segment.innermost.operands) ∷ segment.callers;
           });
         }) }
     ensures next { IfOk result (λ e. e ≡ Effect.Next) }
-    ensures err { OnErr result
-        (frames.new ≡ record frames.old { segment = Some (record { innermost = frame; callers = callers }) }) }
+    ensures err { OnErr result (frames.new ≡ record frames.old { segment = Some segment }) }
 {
-    let mut callers = callers;
-    match callers.push_caller(frame, arguments) {
-        Ok(()) => {
-            stand(frames, callee, callers);
-            Ok(Effect::Next)
-        }
-        Err(frame) => {
-            stand(frames, frame, callers);
-            Err(AllocError)
-        }
+    let mut segment = segment;
+    let called = call(&mut segment, callee, arguments);
+    stand(frames, segment);
+    match called {
+        Ok(()) => Ok(Effect::Next),
+        Err(error) => Err(error),
     }
 }
 
@@ -204,8 +198,7 @@ fn call(
 /// `AllocError` where memory is refused: then the stack is as it was, and so is what was printed.
 fn print(
     frames: &mut Frames,
-    frame: Frame,
-    callers: FrameList,
+    segment: Segment,
     text: Text,
     operands: usize,
     printed: &mut Output,
@@ -213,75 +206,72 @@ fn print(
     ensures ok { OnOk result
         (frames.new ≡ record frames.old {
           segment = Some (record {
-            innermost = advanced (with_operands frame (dropped operands frame.operands));
-            callers = callers;
+            innermost = advanced (with_operands segment.innermost (dropped operands segment.innermost.operands));
+            callers = segment.callers;
           });
         }) }
     ensures text { IfOk result (λ e. e ≡ Effect.Print text) }
     ensures printed { OnOk result
         (printed.new ≡ printed.old ++ record { thread = frames.old.thread; text = text } ∷ []) }
     ensures kept { OnErr result (printed.new ≡ printed.old) }
-    ensures err { OnErr result
-        (frames.new ≡ record frames.old { segment = Some (record { innermost = frame; callers = callers }) }) }
+    ensures err { OnErr result (frames.new ≡ record frames.old { segment = Some segment }) }
 {
-    let mut frame = frame;
+    let mut segment = segment;
     match printed.add(frames.thread, text.as_bytes()) {
         Ok(()) => {
-            frame.cells.drop_many(operands);
-            advance(&mut frame);
-            stand(frames, frame, callers);
+            segment.innermost.cells.drop_many(operands);
+            advance(&mut segment.innermost);
+            stand(frames, segment);
             Ok(Effect::Print(text))
         }
         Err(error) => {
-            stand(frames, frame, callers);
+            stand(frames, segment);
             Err(error)
         }
     }
 }
 
-/// What the conclusion of an instruction makes of its thread, of whose stack its frame and the callers were taken.
-/// What it prints comes behind what was printed before.
+/// What the conclusion of an instruction makes of its thread, of whose stack the frames were taken. What it prints comes behind what was printed before.
 ///
 /// # Errors
 /// `AllocError` where memory is refused to a call or a print: then the stack is as it was, and so is what was printed.
 fn conclude(
     program: &Program,
     frames: &mut Frames,
-    frame: Frame,
-    callers: FrameList,
+    segment: Segment,
     conclusion: Conclusion,
     printed: &mut Output,
 ) -> Result<Effect, AllocError>
     ensures step { IfOk result
-        (λ e. (maker : Maker) (f : Frame) (before after : SharedState) → f.activity ≡ frame.activity
-        → Untouched (Ok conclusion) f frame →
-        IsStep program.now frames.old.thread (f ∷ callers) (levels_of frames.old) before
-        (run_row frames.old.thread maker after (concluded conclusion frame)) e frames.new after) }
+        (λ e. (maker : Maker) (f : Frame) (before after : SharedState) → f.activity ≡ segment.innermost.activity
+        → Untouched (Ok conclusion) f segment.innermost →
+        IsStep program.now frames.old.thread (f ∷ segment.callers) (levels_of frames.old) before
+        (run_row frames.old.thread maker after (concluded conclusion segment.innermost)) e frames.new after) }
     ensures moves { IfOk result (λ e. ((old new : Frames) → Stays e old new)
         × ((before after : SharedTables) → Stays e before after)) }
     ensures thread { frames.new.thread ≡ frames.old.thread }
-    ensures err { OnErr result (((f : Frame) → Untouched (Ok conclusion) f frame → frames.new
-        ≡ record frames.old { segment = Some (record { innermost = f; callers = callers }) })
+    ensures err { OnErr result (((f : Frame) → Untouched (Ok conclusion) f segment.innermost → frames.new
+        ≡ record frames.old { segment = Some (record segment { innermost = f }) })
         × ((old new : SharedTables) → KeptBy shared_of (Ok conclusion) old new → SharesTheSame old new)) }
     ensures printed { IfOk result (λ e. HasPrinted e frames.old.thread printed.old printed.new) }
     ensures kept { OnErr result (printed.new ≡ printed.old) }
 {
     match conclusion {
         Conclusion::Stays => {
-            stand(frames, frame, callers);
+            stand(frames, segment);
             Ok(Effect::Next)
         }
-        Conclusion::Becomes(other) => {
-            stand(frames, other, callers);
+        Conclusion::Becomes(innermost) => {
+            let callers = segment.callers;
+            stand(frames, Segment { innermost, callers });
             Ok(Effect::Next)
         }
-        Conclusion::Calls { callee, arguments } => call(frames, frame, callers, callee, arguments),
-        Conclusion::Prints { text, operands } => {
-            print(frames, frame, callers, text, operands, printed)
-        }
-        Conclusion::Returns(value) => Ok(return_to(frames, callers, value)),
+        Conclusion::Calls { callee, arguments } => enter(frames, segment, callee, arguments),
+        Conclusion::Prints { text, operands } => print(frames, segment, text, operands, printed),
+        Conclusion::Returns(value) => Ok(return_to(frames, segment, value)),
         Conclusion::Raises(exception, class) => {
-            Ok(throw(program, frames, frame, callers, exception, class))
+            let Segment { innermost, callers } = segment;
+            Ok(throw(program, frames, innermost, callers, exception, class))
         }
         Conclusion::Halts(kind) => Ok(halt(frames, End::Faulted(kind))),
     }
@@ -337,18 +327,15 @@ pub fn effect(
     ensures kept { OnErr result (printed.new ≡ printed.old) }
 {
     let by = actor_of(frames);
-    let Some(segment) = frames.segment.take() else {
+    let Some(mut segment) = frames.segment.take() else {
         unreachable!()
     };
-    let Segment {
-        innermost: mut frame,
-        callers,
-    } = segment;
+    let frame = &mut segment.innermost;
     let mut spares = Spares::none(alloc);
-    match execute(alloc, &mut spares, program, by, &mut frame, shared) {
-        Ok(conclusion) => { conclude(program, frames, frame, callers, conclusion, printed) }
+    match execute(alloc, &mut spares, program, by, frame, shared) {
+        Ok(conclusion) => conclude(program, frames, segment, conclusion, printed),
         Err(stop) => {
-            stand(frames, frame, callers);
+            stand(frames, segment);
             stopped(stop)
         }
     }

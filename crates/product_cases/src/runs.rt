@@ -99,7 +99,7 @@ fn add_seen(
     let threads = world.endings(alloc)?;
     add_endings(text, threads.as_slice())?;
     add_prints(text, world.printed())?;
-    if world.is_stuck(program) {
+    if world.stuck(program) {
         text.push_str(" stuck")?;
     }
     Ok(())

@@ -142,7 +142,7 @@ fn add_sight(
             write!(text, "{thread}:{printed}")?;
         }
     }
-    if world.is_stuck(program) {
+    if world.stuck(program) {
         text.push_str(" stuck")?;
     }
     Ok(())

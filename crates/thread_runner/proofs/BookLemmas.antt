@@ -25,7 +25,7 @@ use Rattle.init_engine.specs.declared.world.Turn.TheVariants as turns
 use Rattle.thread_runner.specs.Local.{local_steps, local_step}
 use Rattle.thread_runner.specs.Stretches.{IsLocalRun, Reach}
 use Rattle.thread_runner.specs.Kept.{Grows, IsKept, Past, steps_of}
-use Rattle.thread_runner.specs.Commits.{Fits, GoesOn, IsCommit, IsCounted, MovedTo, after, there}
+use Rattle.thread_runner.specs.Commits.{Fits, GoesOn, IsCommit, IsSettled, MovedTo, after, there}
 use Rattle.thread_runner.specs.Fronts.{FitsFront, FrontReach, IsFrontCommit, after_front, front_count}
 use Rattle.thread_runner.specs.declared.history.Commit.{Commit}
 use Rattle.thread_runner.specs.declared.history.Commit.TheVariants as commits
@@ -203,16 +203,16 @@ counted_small turns.Ended n h = omega (arith, h)
 abbrev pub NoneLeads : World → ℕ → World → Type 0
 NoneLeads w n there = n ≡ 0 → there ≡ w
 
-pub steps_counted : (P : Tables) (old new : Past) (t n : ℕ) (far : World) (turn : Turn)
+pub settled : (P : Tables) (old new : Past) (t n : ℕ) (far : World) (turn : Turn)
     → NoneLeads (world_of old.world) n far
     → IsTurn (program_of P) far t turn (world_of new.world)
     → schedule_of new.journal ≡ schedule_of old.journal ++ replicate (counted turn n) t
     → (counted turn n ≡ 0 → new.journal ≡ old.journal) → new.limit ≡ old.limit
-    → IsCounted P old t n far (answered turn n) new
-steps_counted P old new t n far turns.Moved same is grown none limit =
+    → IsSettled P old t n far (answered turn n) new
+settled P old new t n far turns.Moved same is grown none limit =
     subst (λ (o : Option World). MovedTo old t n far o new) (sym is)
     (record { world = refl; journal = grown; limit = limit })
-steps_counted P old new t zero far turns.Waiting same is grown none limit =
+settled P old new t zero far turns.Waiting same is grown none limit =
     let at = same refl in (
       subst (λ (w : World). Goes (slice_get w.threads t)) at is.0,
       (
@@ -221,10 +221,10 @@ steps_counted P old new t zero far turns.Waiting same is grown none limit =
         record { world = is.2 ∙ at; journal = none refl; limit = limit },
       ),
     )
-steps_counted P old new t (suc n) far turns.Waiting same is grown none limit =
+settled P old new t (suc n) far turns.Waiting same is grown none limit =
     subst (λ (o : Option World). MovedTo old t (suc n) far o new) (sym is.1)
     (omega arith, record { world = is.2; journal = grown; limit = limit })
-steps_counted P old new t zero far turns.Ended same is grown none limit =
+settled P old new t zero far turns.Ended same is grown none limit =
     let at = same refl in (
       subst (λ (w : World). IsOver (slice_get w.threads t)) at is.0,
       (
@@ -233,7 +233,7 @@ steps_counted P old new t zero far turns.Ended same is grown none limit =
         record { world = is.2 ∙ at; journal = none refl; limit = limit },
       ),
     )
-steps_counted P old new t (suc n) far turns.Ended same is grown none limit =
+settled P old new t (suc n) far turns.Ended same is grown none limit =
     subst (λ (o : Option World). MovedTo old t (suc n) far o new) (sym is.1)
     (omega arith, record { world = is.2; journal = grown; limit = limit })
 
@@ -248,7 +248,7 @@ lands_none w t (landings.Top top) n may = λ is. absurd (omega (arith, is, may.0
 
 -- a commit that counts
 counts : (P : Tables) (old : Past) (t : ℕ) (s : Reach) (a : Commit) (new : Past) → steps_of old < old.limit
-    → Fits (world_of old.world) t s → IsCounted P old t s.count (after (world_of old.world) t s) a new
+    → Fits (world_of old.world) t s → IsSettled P old t s.count (after (world_of old.world) t s) a new
     → IsCommit P old t s a new
 counts P old t s commits.Full new below fits h = absurd h
 counts P old t s commits.Stale new below fits h = absurd h
@@ -258,19 +258,19 @@ counts P old t s commits.Ended new below fits h = (below, fits, h)
 
 pub counts_if : {E : Type 0} (P : Tables) (old : Past) (t : ℕ) (s : Reach) (to : Frames) (n : ℕ) (r : Result Commit E)
     (new : Past) → n ≡ s.count → to ≡ s.to → steps_of old < old.limit → Fits (world_of old.world) t s
-    → IfOk r (λ a. IsCounted P old t n (there (world_of old.world) t to n) a new)
+    → IfOk r (λ a. IsSettled P old t n (there (world_of old.world) t to n) a new)
     → IfOk r (λ a. IsCommit P old t s a new)
 counts_if P old t s to n (Ok a) new is at below fits h =
     counts P old t s a new below fits
-    (subst (λ (f : Frames). IsCounted P old t s.count (there (world_of old.world) t f s.count) a new) at
-    (subst (λ k. IsCounted P old t k (there (world_of old.world) t to k) a new) is h))
+    (subst (λ (f : Frames). IsSettled P old t s.count (there (world_of old.world) t f s.count) a new) at
+    (subst (λ k. IsSettled P old t k (there (world_of old.world) t to k) a new) is h))
 counts_if P old t s to n (Err e) new is at below fits h = tt
 
 -- ---- a commit of a front
 
 front_counts : (P : Tables) (old : Past) (t : ℕ) (s : Option FrontReach) (a : Commit) (new : Past)
     → steps_of old < old.limit → FitsFront (world_of old.world) t s
-    → IsCounted P old t (front_count s) (after_front (world_of old.world) t s) a new → IsFrontCommit P old t s a new
+    → IsSettled P old t (front_count s) (after_front (world_of old.world) t s) a new → IsFrontCommit P old t s a new
 front_counts P old t s commits.Full new below fits h = absurd h
 front_counts P old t s commits.Stale new below fits h = absurd h
 front_counts P old t s commits.Moved new below fits h = (below, fits, h)
@@ -280,9 +280,9 @@ front_counts P old t s commits.Ended new below fits h = (below, fits, h)
 pub front_counts_if : {E : Type 0} (P : Tables) (old : Past) (t : ℕ) (s : Option FrontReach) (r : Result Commit E)
     (new : Past) (far : World) (n : ℕ) → n ≡ front_count s → far ≡ after_front (world_of old.world) t s
     → steps_of old < old.limit → FitsFront (world_of old.world) t s
-    → IfOk r (λ a. IsCounted P old t n far a new) → IfOk r (λ a. IsFrontCommit P old t s a new)
+    → IfOk r (λ a. IsSettled P old t n far a new) → IfOk r (λ a. IsFrontCommit P old t s a new)
 front_counts_if P old t s (Ok a) new far n is at below fits h =
     front_counts P old t s a new below fits
-    (subst (λ (w : World). IsCounted P old t (front_count s) w a new) at
-    (subst (λ k. IsCounted P old t k far a new) is h))
+    (subst (λ (w : World). IsSettled P old t (front_count s) w a new) at
+    (subst (λ k. IsSettled P old t k far a new) is h))
 front_counts_if P old t s (Err e) new far n is at below fits h = tt

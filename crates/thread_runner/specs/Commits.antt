@@ -65,17 +65,17 @@ abbrev pub Stood : Tables → Past → ℕ → ℕ → Past → Type 0
 Stood P old t n new = (n ≡ 0) × (step (program_of P) (world_of old.world) t ≡ None) × Same old new
 
 -- what is answered where n steps of t led to a world, and what is changed
-abbrev pub IsCounted : Tables → Past → ℕ → ℕ → World → Commit → Past → Type 0
-IsCounted P old t n there Full new = ⊥
-IsCounted P old t n there Stale new = ⊥
-IsCounted P old t n there Moved new = MovedTo old t n there (step (program_of P) there t) new
-IsCounted P old t n there Waiting new = Goes (slice_get (world_of old.world).threads t) × Stood P old t n new
-IsCounted P old t n there Ended new = IsOver (slice_get (world_of old.world).threads t) × Stood P old t n new
+abbrev pub IsSettled : Tables → Past → ℕ → ℕ → World → Commit → Past → Type 0
+IsSettled P old t n there Full new = ⊥
+IsSettled P old t n there Stale new = ⊥
+IsSettled P old t n there Moved new = MovedTo old t n there (step (program_of P) there t) new
+IsSettled P old t n there Waiting new = Goes (slice_get (world_of old.world).threads t) × Stood P old t n new
+IsSettled P old t n there Ended new = IsOver (slice_get (world_of old.world).threads t) × Stood P old t n new
 
 -- the stretch counts
 abbrev pub Counts : Tables → Past → ℕ → Reach → Commit → Past → Type 0
 Counts P old t s answer new = (steps_of old < old.limit) × Fits (world_of old.world) t s
-    × IsCounted P old t s.count (after (world_of old.world) t s) answer new
+    × IsSettled P old t s.count (after (world_of old.world) t s) answer new
 
 -- Full: the journal has as many steps as it may. Stale: the stretch does not begin where its thread is, or takes a
 -- class to be initialized that is not. Otherwise its steps count, and one more where there is one. Moved: one counted

@@ -242,7 +242,7 @@ impl<O: Session, S: Sink> Desk<O, S> {
 
     /// Ends the run where no thread has a step.
     fn end_if_stuck(&mut self, program: &Program) {
-        if self.book.world().is_stuck(program) {
+        if self.book.world().stuck(program) {
             self.over = true;
         }
     }

@@ -6,7 +6,7 @@ ghost use Rattle.semantics.specs.Worlds.{Run};
 ghost use Rattle.machine.specs.Linked.{program_of};
 ghost use Rattle.init_engine.specs.Schedules.{schedule_of, AreRuns};
 ghost use Rattle.init_engine.specs.Turns.{world_of};
-ghost use Rattle.thread_runner.specs.Commits.{Fits, GoesOn, IsCommit, IsCounted, Same};
+ghost use Rattle.thread_runner.specs.Commits.{Fits, GoesOn, IsCommit, IsSettled, Same};
 ghost use Rattle.thread_runner.specs.Fronts.{FitsFront, IsFrontCommit};
 ghost use Rattle.thread_runner.specs.Kept.{IsKept, steps_of};
 ghost use Rattle.courses.specs.steps.StepTables.{KeepsSteps};
@@ -172,7 +172,7 @@ impl<O: Origin> History<O> {
     ///
     /// # Errors
     /// `AllocError` where memory is refused; nothing has changed then.
-    fn count_steps(
+    fn settle(
         &mut self,
         alloc: Global,
         program: &Program,
@@ -187,7 +187,7 @@ impl<O: Origin> History<O> {
         requires below { steps_of self.old < self.old.limit }
         requires led { Run (program_of O.program) (world_of self.old.world) (replicate count thread)
             (landed (world_of self.old.world) thread to count) }
-        ensures answer { IfOk result (λ a. IsCounted O.program self.old thread count
+        ensures answer { IfOk result (λ a. IsSettled O.program self.old thread count
             (landed (world_of self.old.world) thread to count) a self.new) }
         ensures goes_on { GoesOn self.old self.new }
         ensures memory { OnErr result (Same self.old self.new) }
@@ -225,7 +225,7 @@ impl<O: Origin> History<O> {
         }
         let count = stretch.count();
         let to = Landing::Whole(stretch.into_end());
-        self.count_steps(alloc, program, thread, to, count)
+        self.settle(alloc, program, thread, to, count)
     }
 
     /// Whether a stretch begins at the innermost frame of its thread, and the classes that it asked for are
@@ -266,7 +266,7 @@ impl<O: Origin> History<O> {
         }
         let count = stretch.count();
         let to = Landing::Top(stretch.into_top());
-        self.count_steps(alloc, program, thread, to, count)
+        self.settle(alloc, program, thread, to, count)
     }
 
     /// One step of a thread, where there is one.
@@ -293,7 +293,7 @@ impl<O: Origin> History<O> {
             segment: None,
             levels: None,
         };
-        self.count_steps(alloc, program, thread, Landing::Whole(none), 0)
+        self.settle(alloc, program, thread, Landing::Whole(none), 0)
     }
 
     /// The steps of a stretch on a front, if there is one, and one more where there is one.

@@ -44,7 +44,7 @@ pub(crate) fn work<O: Session, S: Sink, G: Gate, R: Wait>(
             moved.notify_all();
             return;
         };
-        let (moves, next) = locked.commit(rt, alloc, program, thread, made, known.is_old());
+        let (moves, next) = locked.settle(rt, alloc, program, thread, made, known.is_old());
         if moves {
             job = job.wrapping_add(1);
         }
@@ -78,7 +78,7 @@ impl<'a, O: Session, S: Sink> LockedDesk<'a, O, S> {
     /// if it goes on: the lock is taken once for both. A thread that waits sleeps until another one has moved or the
     /// run is over, and whoever moves or ends it wakes those that sleep, if there are any: to wake nobody is a call of
     /// the system, too.
-    fn commit<R: Wait>(
+    fn settle<R: Wait>(
         &self,
         rt: &R,
         alloc: Global,

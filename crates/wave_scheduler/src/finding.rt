@@ -21,7 +21,7 @@ use std::alloc::{AllocError, Global};
 
 /// The verdict on a class, with its region.
 #[derive(Drop)]
-struct Finding {
+struct Found {
     verdict: Verdict,
     /// Its region, if it is accepted.
     region: Option<Region>,
@@ -40,15 +40,15 @@ fn reason_of(refusal: Refusal) -> Reason
 }
 
 /// The verdict on a class of this outcome in a wave, with its region.
-fn found_of(outcome: Outcome, wave: usize) -> Finding
+fn found_of(outcome: Outcome, wave: usize) -> Found
     ensures { IsFoundOf wave outcome (outcome_of result.verdict) (option_map region_of result.region) }
 {
     match outcome {
-        Outcome::Settled(region) => Finding {
+        Outcome::Settled(region) => Found {
             verdict: Verdict::Wave(wave),
             region: Some(region),
         },
-        Outcome::Refused(refusal) => Finding {
+        Outcome::Refused(refusal) => Found {
             verdict: Verdict::Refused(reason_of(refusal)),
             region: None,
         },
@@ -92,7 +92,7 @@ fn find<W: Lent, G: Gate>(
     told: Option<u32>,
     given: Option<Done<W>>,
     caller: &Worker<'_, G>,
-) -> Result<Finding, AllocError>
+) -> Result<Found, AllocError>
     requires lent { wave.terms.program.now ≡ W.program }
     requires budget { wave.terms.budget ≡ W.budget }
     requires run { CanRun (program_of wave.terms.program.now) (environment_of regions.now) wave.terms.budget class
@@ -102,7 +102,7 @@ fn find<W: Lent, G: Gate>(
         (option_map region_of found.region)) }
 {
     match told {
-        Some(refused) => Ok(Finding {
+        Some(refused) => Ok(Found {
             verdict: Verdict::Refused(Reason::DependsOn(refused)),
             region: None,
         }),
@@ -126,7 +126,7 @@ fn put_region(regions: &mut Regions, class: u32, region: Option<Region>)
 }
 
 /// Puts what was found of a class in its place.
-fn put(settled: &mut Settled, class: u32, found: Finding)
+fn put(settled: &mut Settled, class: u32, found: Found)
     requires class { class < length settled.old.verdicts }
     requires place { class < length settled.old.regions }
     requires none { region_in settled.old.regions class ≡ None }

@@ -6,7 +6,7 @@ use Rattle.hierarchy.specs.declared.member.DeclaredMember.{DeclaredMember}
 use Rattle.use_graph.specs.declared.body.Told.{Told}
 use Rattle.use_graph.specs.declared.whole_program.UseGraph.{UseGraph}
 use Rattle.initializer_analysis.specs.steps.Dependence.{IsVertexOf}
-use Rattle.audit.specs.declared.places.EndPlace.{EndPlace}
+use Rattle.audit.specs.declared.places.Place.{Place}
 use Rattle.audit.specs.Reach.{Method, MayReach}
 use Rattle.audit.specs.Places.{end_of, IsLackingStart, IsPlace}
 
@@ -25,21 +25,21 @@ AreReachedMethods P methods entries reached = (n : ℕ) (m : DeclaredMember) →
     → Contains reached n ↔ MayReach P entries (Method m.class m.index)
 
 -- an instruction of a method, of which this is told, ends its thread
-abbrev pub IsToldPlace : DeclaredMember → Told → EndPlace → Type 0
+abbrev pub IsToldPlace : DeclaredMember → Told → Place → Type 0
 IsToldPlace m told place = (place.class ≡ m.class) × (place.index ≡ m.index) × (place.pc ≡ Some told.pc)
     × (end_of told.feature ≡ Some place.kind)
 
 -- a method is an entry's `main` that can't be called
-abbrev pub IsStartPlace : Tables → List ℕ → DeclaredMember → EndPlace → Type 0
+abbrev pub IsStartPlace : Tables → List ℕ → DeclaredMember → Place → Type 0
 IsStartPlace P entries m place = (place.class ≡ m.class) × (place.index ≡ m.index) × (place.pc ≡ None)
     × IsLackingStart P entries m.class m.index place.kind
 
 -- a place in the method of a number
-abbrev pub IsPlaceOf : Tables → List ℕ → List DeclaredMember → ℕ → EndPlace → Type 0
+abbrev pub IsPlaceOf : Tables → List ℕ → List DeclaredMember → ℕ → Place → Type 0
 IsPlaceOf P entries methods n place = (m : DeclaredMember) × (slice_get methods n ≡ Some m)
     × (place.class ≡ m.class) × (place.index ≡ m.index) × IsPlace P entries place
 
 -- the places in the methods of numbers below a limit
-abbrev pub AreBelow : Tables → List ℕ → List DeclaredMember → ℕ → List EndPlace → Type 0
-AreBelow P entries methods limit places = (p : EndPlace) → Contains places p
+abbrev pub AreBelow : Tables → List ℕ → List DeclaredMember → ℕ → List Place → Type 0
+AreBelow P entries methods limit places = (p : Place) → Contains places p
     ↔ ((n : ℕ) × (n < limit) × IsPlaceOf P entries methods n p)

@@ -1,4 +1,4 @@
--- Instructions that bear a mark, as bearers of the methods in which they stand.
+-- Instructions that bear a mark, as goals of the methods in which they stand.
 use Rattle.std.specs.Prelude.{◌≡◌, ◌↔◌, ℕ, ◌<◌, List, length, Option, Some, None, slice_get, slice_index_or}
 use Rattle.std.specs.List.{Contains}
 use Rattle.graph.specs.Reaches.{Reaches}
@@ -13,46 +13,46 @@ use Rattle.use_graph.specs.declared.whole_program.UseGraph.{UseGraph}
 use Rattle.use_graph.specs.Uses.{Tells, field_class, mark_of}
 use Rattle.use_graph.specs.steps.Deeds.{HoldsOfOne}
 use Rattle.explain.specs.declared.evidences.Evidences.{Evidences}
-use Rattle.explain.specs.declared.bearers.Bearer.{Bearer}
-use Rattle.explain.specs.declared.bearers.Pair.{Pair}
-use Rattle.explain.specs.declared.bearers.Source.{Source}
-use Rattle.explain.specs.steps.Bearers.{Serves}
+use Rattle.explain.specs.declared.goals.Goal.{Goal}
+use Rattle.explain.specs.declared.goals.Pair.{Pair}
+use Rattle.explain.specs.declared.goals.Source.{Source}
+use Rattle.explain.specs.steps.Goals.{Serves}
 use Rattle.explain.specs.steps.Nearest.{Has}
 
--- what is told of an instruction of a method is this bearer, for a mark
-abbrev pub IsBearerOf : Mark → DeclaredMember → Told → Bearer → Type 0
-IsBearerOf mark m t g = (mark_of t.feature ≡ mark) × (g.field_class ≡ field_class t.feature)
+-- what is told of an instruction of a method is this goal, for a mark
+abbrev pub IsGoalOf : Mark → DeclaredMember → Told → Goal → Type 0
+IsGoalOf mark m t g = (mark_of t.feature ≡ mark) × (g.field_class ≡ field_class t.feature)
     × (g.at.class ≡ m.class) × (g.at.index ≡ m.index) × (g.at.pc ≡ t.pc)
 
--- it is a bearer of the method of a vertex
-abbrev pub IsBearerAt : UseGraph → Mark → ℕ → Bearer → Type 0
-IsBearerAt uses mark v g = (m : DeclaredMember) × (b : BodyUses) × (slice_get uses.methods v ≡ Some m)
-    × (slice_get uses.bodies.items v ≡ Some b) × HoldsOfOne (IsBearerOf mark m) b.told.items g
+-- it is a goal of the method of a vertex
+abbrev pub IsGoalAt : UseGraph → Mark → ℕ → Goal → Type 0
+IsGoalAt uses mark v g = (m : DeclaredMember) × (b : BodyUses) × (slice_get uses.methods v ≡ Some m)
+    × (slice_get uses.bodies.items v ≡ Some b) × HoldsOfOne (IsGoalOf mark m) b.told.items g
 
 abbrev pub IsSourceOf : Mark → ℕ → DeclaredMember → Told → Source → Type 0
-IsSourceOf mark v m t s = (s.vertex ≡ v) × IsBearerOf mark m t s.bearer
+IsSourceOf mark v m t s = (s.vertex ≡ v) × IsGoalOf mark m t s.goal
 
 abbrev pub IsSourceAt : UseGraph → Mark → ℕ → Source → Type 0
-IsSourceAt uses mark v s = (s.vertex ≡ v) × IsBearerAt uses mark v s.bearer
+IsSourceAt uses mark v s = (s.vertex ≡ v) × IsGoalAt uses mark v s.goal
 
 -- those of the methods of all vertices
 abbrev pub AreSources : UseGraph → Mark → List Source → Type 0
-AreSources uses mark sources = (s : Source) → Contains sources s ↔ IsBearerAt uses mark s.vertex s.bearer
+AreSources uses mark sources = (s : Source) → Contains sources s ↔ IsGoalAt uses mark s.vertex s.goal
 
 -- those of the vertices before this one
 abbrev pub AreSourcesBelow : UseGraph → Mark → ℕ → List Source → Type 0
 AreSourcesBelow uses mark limit sources =
-    (s : Source) → Contains sources s ↔ ((s.vertex < limit) × IsBearerAt uses mark s.vertex s.bearer)
+    (s : Source) → Contains sources s ↔ ((s.vertex < limit) × IsGoalAt uses mark s.vertex s.goal)
 
 -- one of a method that a vertex of the calls reaches
-abbrev pub ReachesBearer : UseGraph → Mark → ℕ → Bearer → Type 0
-ReachesBearer uses mark v g = (u : ℕ) × Reaches uses.calls v u × IsBearerAt uses mark u g
+abbrev pub ReachesGoal : UseGraph → Mark → ℕ → Goal → Type 0
+ReachesGoal uses mark v g = (u : ℕ) × Reaches uses.calls v u × IsGoalAt uses mark u g
 
--- each vertex has bearers that it reaches, and wherever one that it reaches serves, one that it has does
+-- each vertex has goals that it reaches, and wherever one that it reaches serves, one that it has does
 pub record IsMarking (uses : UseGraph) (mark : Mark) (pairs : List Pair) : Type 0 where
   pub len : length pairs ≡ length uses.calls
-  pub sound : (v : ℕ) (g : Bearer) → Has pairs v g → ReachesBearer uses mark v g
-  pub complete : (v : ℕ) (g : Bearer) → ReachesBearer uses mark v g → Serves (Has pairs v) g
+  pub sound : (v : ℕ) (g : Goal) → Has pairs v g → ReachesGoal uses mark v g
+  pub complete : (v : ℕ) (g : Goal) → ReachesGoal uses mark v g → Serves (Has pairs v) g
 
 -- of each class evidence for a mark, or none where it has it not
 abbrev pub AreTold : Tables → Mark → List (Option Evidence) → Type 0

@@ -2,9 +2,7 @@
 use Rattle.std.specs.Prelude.{ℕ, ◌≤◌, List, length}
 use Rattle.image_format.specs.declared.version.Version.{Version}
 use Rattle.image_parser.specs.declared.header.HeaderFault.TheVariants as faults
-use Rattle.image_parser.specs.declared.image_fault.ImageFault.{ImageFault}
 use Rattle.image_parser.specs.HeaderFaults.{HeaderFails, IsFramed, IsSealed}
-use Rattle.image_parser.specs.ImageFaults.{PartsFail}
 
 -- These are the parts if the digest is that of all before it, and that is what is wrong else. A count of class files
 -- stands before them.
@@ -12,7 +10,3 @@ pub record IsUnsealed (bytes : List ℕ) (version : Version) (parts : List ℕ) 
   pub room : 4 ≤ length parts
   pub sealed : IsSealed bytes → IsFramed bytes version parts
   pub broken : ¬ IsSealed bytes → HeaderFails bytes faults.Digest
-
--- what is wrong with parts in each version, as what is wrong with their class files
-abbrev pub FailsInEach : List ℕ → ImageFault → Type 0
-FailsInEach parts fault = (version : Version) → PartsFail version parts fault

@@ -3,7 +3,7 @@ use Rattle.std.specs.Prelude.{◌≡◌, ℕ, ◌+◌, ◌<◌, ◌≤◌, ◌�
 use Rattle.std.specs.Prelude.{slice_index_or, if◌then◌else◌, ◌⊎◌}
 use Rattle.graph.specs.Rows.{Rows, successors_of}
 use Rattle.graph.specs.Components.{Parts}
-use Rattle.initializer_analysis.specs.steps.Joined.{IsBeyond}
+use Rattle.initializer_analysis.specs.steps.Settled.{IsBeyond}
 
 -- a table by components tells which have a marked vertex below a limit
 abbrev pub HaveMarked : List ℕ → List Bool → ℕ → List Bool → Type 0

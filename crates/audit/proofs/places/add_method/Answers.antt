@@ -2,7 +2,7 @@ use Rattle.std.proofs.Common.{◌≡◌, ◌↔◌, ◌⊎◌, ◌∙◌, List, 
 use Rattle.std.specs.List.{Contains}
 use Rattle.use_graph.specs.declared.body.Told.{Told}
 use Rattle.use_graph.specs.steps.Deeds.{HoldsOfOne}
-use Rattle.audit.specs.declared.places.EndPlace.{EndPlace}
+use Rattle.audit.specs.declared.places.Place.{Place}
 use Rattle.audit.specs.steps.Reaching.{IsToldPlace, IsStartPlace}
 use Rattle.audit.proofs.PlacesLemmas.{unreached, bodiless, added}
 use Rattle.audit.proofs.places.add_method.Goals as goal
@@ -19,7 +19,7 @@ returns-in_ok-add_reached-in-Some-body c =
     c.requires.reached c.args.number c.in-Some.method (sym c.in-Some.ensures.value) c.in-Some-body.body.now
     (sym c.in-Some-body.ensures) (c.has.ensures.0 c.if-not-has.false) c.args.places.now.items
     c.add_reached.new.places.items
-    (subst (λ (l : List Told). (p : EndPlace) → Contains c.add_reached.new.places.items p
+    (subst (λ (l : List Told). (p : Place) → Contains c.add_reached.new.places.items p
     ↔ (Contains c.args.places.now.items p ⊎ (IsStartPlace c.args.program.now c.args.entries.now c.in-Some.method p
     ⊎ HoldsOfOne (IsToldPlace c.in-Some.method) l p))) c.deref.ensures.value
     c.in_ok-add_reached-in-Some-body.ensures)

@@ -1,12 +1,12 @@
 use Rattle.std.proofs.Common.{◌≡◌, Some, None, refl, sym}
-use Rattle.audit.specs.declared.places.EndPlace.{EndPlace}
+use Rattle.audit.specs.declared.places.Place.{Place}
 use Rattle.audit.specs.steps.Reaching.{IsStartPlace}
 use Rattle.audit.proofs.PlacesLemmas.{one_added, nothing_added, same_place}
 use Rattle.audit.proofs.places.add_start.Goals as goal
 
 pub returns-in_ok-push-in-Some : goal.returns-in_ok-push-in-Some
 returns-in_ok-push-in-Some c =
-    let place : EndPlace = record {
+    let place : Place = record {
       class = c.args.method.class;
       index = c.args.method.index;
       pc = None;

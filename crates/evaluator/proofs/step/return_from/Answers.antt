@@ -1,20 +1,26 @@
-use Rattle.std.proofs.Common.{rules}
-use Rattle.evaluator.proofs.StepsLemmas.{returns_over, returns_on, returns_full}
+use Rattle.std.proofs.Common.{[], ap}
+use Rattle.vm_state.specs.Segments.{frames_of}
+use Rattle.semantics.specs.Rows.{Returns}
+use Rattle.semantics.specs.Moves.{returned}
+use Rattle.evaluator.proofs.StepsLemmas.{step_full, step_on}
 use Rattle.evaluator.proofs.step.return_from.Goals as goal
-
-pub returns-in_default : goal.returns-in_default
-returns-in_default c =
-    λ P env k most f own new made active same e.
-    returns_over P env k most f c.args.segment.now.callers c.args.value own new made e (search rules)
 
 pub returns-in-Ok : goal.returns-in-Ok
 returns-in-Ok c =
     λ P env k most f own new made active same e.
-    returns_on P env k most f c.in-Some.caller c.receive.new.frame c.args.segment.now.callers c.pop.new.self
-    c.args.value own new made e (search rules) c.pop.ensures.rest c.in-Ok.ensures.ok
+    step_on P env k most f c.args.segment.now.callers (frames_of c.leave.new.segment) own
+    (record { move = Returns c.args.value; region = new; elements = made }) e c.in-Ok.ensures.ok
 
-pub returns-in-Err : goal.returns-in-Err
-returns-in-Err c =
+pub returns-in-Err-NoCaller : goal.returns-in-Err-NoCaller
+returns-in-Err-NoCaller c =
     λ P env k most f own new made active same e.
-    returns_full P env k most f c.in-Some.caller c.args.segment.now.callers c.args.value own new made e (search rules)
-    c.in-Err.ensures.err
+    step_on P env k most f c.args.segment.now.callers [] own
+    (record { move = Returns c.args.value; region = new; elements = made }) e
+    (ap (returned c.args.value) (c.leave.ensures.no_caller c.in-Err-NoCaller.is))
+
+pub returns-in-Err-NoRoom : goal.returns-in-Err-NoRoom
+returns-in-Err-NoRoom c =
+    λ P env k most f own new made active same e.
+    step_full P env k most f c.args.segment.now.callers own
+    (record { move = Returns c.args.value; region = new; elements = made }) e
+    (c.leave.ensures.no_room c.in-Err-NoRoom.is)

@@ -10,7 +10,7 @@ returns-in-Some-but c = λ mark marking.
     c.in-Some.ensures in
     let (m, begins, number) = c.in-Some.ensures in
     tells_by c.args.program.now c.args.uses.now c.args.class mark c.requires.uses m c.in-Some.vertex begins number
-    c.args.pairs.now _ (Some c.in-Some-but.bearer) marking
+    c.args.pairs.now _ (Some c.in-Some-but.goal) marking
     (slice_get-get_or c.args.pairs.now c.in-Some.vertex _ (omega (arith, small, c.requires.len)))
     c.in-Some-but.ensures
 

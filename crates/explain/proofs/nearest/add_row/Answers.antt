@@ -8,7 +8,7 @@ pub loop-vertex-preserved : goal.loop-vertex-preserved
 loop-vertex-preserved c = record {
   len = c.add.ensures.len ∙ c.loop-vertex.invariant.len;
   are = c.in_ok-add.ensures.are;
-  adds = adds_vertex c.args.row.now c.loop-vertex.vertex-index _ c.args.bearer c.args.pairs.now c.loop-vertex.pairs
+  adds = adds_vertex c.args.row.now c.loop-vertex.vertex-index _ c.args.goal c.args.pairs.now c.loop-vertex.pairs
       c.add.new.pairs c.args.found.now.items c.loop-vertex.found.items c.add.new.found.items
       (slice_get-get_or c.args.row.now c.loop-vertex.vertex-index 0 (omega arith)) c.loop-vertex.invariant.adds
       c.in_ok-add.ensures.adds;
@@ -16,7 +16,7 @@ loop-vertex-preserved c = record {
 
 pub returns-clause-adds : goal.returns-clause-adds
 returns-clause-adds c =
-    adds_as (IsInBefore c.args.row.now c.loop-vertex.vertex-index c.args.bearer) (IsIn c.args.row.now c.args.bearer)
+    adds_as (IsInBefore c.args.row.now c.loop-vertex.vertex-index c.args.goal) (IsIn c.args.row.now c.args.goal)
     c.args.pairs.now c.loop-vertex.pairs c.args.found.now.items c.loop-vertex.found.items
     c.loop-vertex.invariant.adds
-    (λ s. in_row c.args.row.now c.loop-vertex.vertex-index c.args.bearer s (omega arith))
+    (λ s. in_row c.args.row.now c.loop-vertex.vertex-index c.args.goal s (omega arith))

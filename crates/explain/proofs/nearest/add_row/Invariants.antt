@@ -7,5 +7,5 @@ abbrev pub invariant-loop-vertex : goal.invariant-loop-vertex
 invariant-loop-vertex l = record {
   len : length l.pairs ≡ length l.initial.pairs;
   are : AreFound l.pairs l.found.items;
-  adds : AddsAll (IsInBefore l.row l.vertex-index l.bearer) l.initial.pairs l.initial.found.items l.pairs l.found.items;
+  adds : AddsAll (IsInBefore l.row l.vertex-index l.goal) l.initial.pairs l.initial.found.items l.pairs l.found.items;
 }

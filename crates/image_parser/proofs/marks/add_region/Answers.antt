@@ -1,3 +1,4 @@
+use Rattle.std.proofs.Common.{Some, refl}
 use Rattle.std.proofs.lemmas.Result.{on_ok_weaker}
 use Rattle.region_shape.specs.Regions.{environment_of}
 use Rattle.image_parser.proofs.MarkReadsLemmas.{none_added, some_added}

@@ -1,4 +1,4 @@
-use Rattle.std.proofs.Common.{◌≡◌, Some, arith, sym}
+use Rattle.std.proofs.Common.{◌≡◌, ℕ, List, Option, Some, arith, sym}
 use Rattle.image_parser.specs.reading.Unknown.{unknown_of}
 use Rattle.image_parser.proofs.ObjectReadsLemmas.{unknown_held}
 use Rattle.image_parser.proofs.UnknownLemmas.{unknown_text}

@@ -1,4 +1,4 @@
-use Rattle.std.proofs.Common.{◌∷◌, [], arith, length-append}
+use Rattle.std.proofs.Common.{◌∷◌, [], arith, length-append, refl}
 use Rattle.std.proofs.lemmas.Result.{err_from_is_err_and}
 use Rattle.image_parser.specs.reading.Values.{unit_at}
 use Rattle.image_parser.proofs.EachLemmas.{next_time, time_fails, all_times}

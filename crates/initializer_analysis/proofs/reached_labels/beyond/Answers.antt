@@ -1,7 +1,7 @@
 use Rattle.std.proofs.Common.{◌≡◌, ℕ, take, slice_index_or, arith, sym, ap, ◌∙◌}
 use Rattle.std.proofs.lemmas.List.{take_all}
 use Rattle.initializer_analysis.specs.steps.LeastReached.{no_labels}
-use Rattle.initializer_analysis.proofs.JoinedLemmas.{beyond_same, beyond_other}
+use Rattle.initializer_analysis.proofs.SettledLemmas.{beyond_same, beyond_other}
 use Rattle.initializer_analysis.proofs.reached_labels.beyond.Goals as goal
 use Rattle.initializer_analysis.proofs.reached_labels.beyond.Goals.{then-other-number, else-other-number}
 

@@ -31,8 +31,7 @@ returns-in-Ok-clause-step c =
     (sym is)
     (IfOk-weaker c.go_on.result _ _
     (λ step went done members. concluded_step (frame_end P done f) f g s.callers ls asked
-    c.execute.new.store.classes.now done c.in-Ok.ensures.kept.activity c.in-Ok.conclusion step new
-    c.in-Ok.ensures.kept.frame
+    c.execute.new.store.classes.now done c.in-Ok.ensures.kept.activity c.in-Ok.conclusion step new c.in-Ok.ensures.kept.frame
     (subst (IsTold asked done (frame_end P done f)) (c.in-Ok.ensures.gives []) (told asked done members (row P f)))
     went) c.go_on.ensures.went)
 
@@ -53,5 +52,4 @@ returns-in-Err-clause-step c =
     (λ step stops done members. stopped_step asked done (frame_end P done f) f s.callers ls step
     (over_asked asked (row P f)) new (told asked done members (row P f))
     (stops (over_asked asked (row P f)) (c.in-Err.ensures.gives []))
-    (ap (λ (x : Frames). going x) c.stand.ensures
-    ∙ ap (λ (x : Frame). Going (x ∷ s.callers) ls) c.in-Err.ensures.kept.frame)) c.stopped.ensures)
+    (ap (λ (x : Frames). going x) c.stand.ensures ∙ ap (λ (x : Frame). Going (x ∷ s.callers) ls) c.in-Err.ensures.kept.frame)) c.stopped.ensures)

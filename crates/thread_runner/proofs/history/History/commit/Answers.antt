@@ -7,8 +7,8 @@ use Rattle.thread_runner.specs.Commits.{there}
 use Rattle.thread_runner.proofs.BookLemmas.{counts_if, has_gone, led_there}
 use Rattle.thread_runner.proofs.history.History.commit.Goals as goal
 
-pub count_steps-requires-clause-may : goal.count_steps-requires-clause-may
-count_steps-requires-clause-may g c = (
+pub settle-requires-clause-may : goal.settle-requires-clause-may
+settle-requires-clause-may g c = (
   c.into_end.ensures.thread ∙ (c.fits.ensures.yes c.if-not-fits.false).0.0,
   λ some.
       has_gone g.O.Origin.program (world_of c.args.self.now.world) c.args.thread c.args.stretch
@@ -16,8 +16,8 @@ count_steps-requires-clause-may g c = (
       (subst (λ k. 0 < k) c.count-count.ensures.is some),
 )
 
-pub count_steps-requires-clause-led : goal.count_steps-requires-clause-led
-count_steps-requires-clause-led g c =
+pub settle-requires-clause-led : goal.settle-requires-clause-led
+settle-requires-clause-led g c =
     let P = g.O.Origin.program in
     let w = world_of c.args.self.now.world in
     let t = c.args.thread in
@@ -29,5 +29,5 @@ count_steps-requires-clause-led g c =
 pub returns-clause-answer : goal.returns-clause-answer
 returns-clause-answer g c =
     counts_if g.O.Origin.program c.args.self.now c.args.thread c.args.stretch c.into_end.result c.count-count.result
-    c.count_steps.result c.count_steps.new.self c.count-count.ensures.is c.into_end.ensures.is
-    (c.is_full.ensures.no c.if-is_full.false) (c.fits.ensures.yes c.if-not-fits.false) c.count_steps.ensures.answer
+    c.settle.result c.settle.new.self c.count-count.ensures.is c.into_end.ensures.is
+    (c.is_full.ensures.no c.if-is_full.false) (c.fits.ensures.yes c.if-not-fits.false) c.settle.ensures.answer

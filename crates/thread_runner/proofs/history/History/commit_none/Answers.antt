@@ -5,6 +5,5 @@ use Rattle.thread_runner.proofs.history.History.commit_none.Goals as goal
 
 pub returns-clause-answer : goal.returns-clause-answer
 returns-clause-answer g c =
-    front_counts_if g.O.Origin.program c.args.self.now c.args.thread None c.count_steps.result c.count_steps.new.self
-    (world_of c.args.self.now.world) 0 refl refl (c.is_full.ensures.no c.if-is_full.false) tt
-    c.count_steps.ensures.answer
+    front_counts_if g.O.Origin.program c.args.self.now c.args.thread None c.settle.result c.settle.new.self
+    (world_of c.args.self.now.world) 0 refl refl (c.is_full.ensures.no c.if-is_full.false) tt c.settle.ensures.answer
