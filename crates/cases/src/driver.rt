@@ -46,12 +46,20 @@ pub fn run_cases<R: Threads + Wait + Sync, S: Subject, W: Write>(
 ) -> io::Result<Tally> {
     let mut tally = Tally::default();
     let (before, parts) = text.split_once("\n# ").unwrap_or((text, ""));
+    let file = CaseFile { name, before };
     for part in parts.split("\n# ") {
-        run_part(rt, alloc, out, subject, name, before, part, &mut tally)?;
+        run_part(rt, alloc, out, subject, file, part, &mut tally)?;
     }
     let Tally { questions, others } = tally;
     writeln!(out, "{name}: {questions} questions, {others} otherwise")?;
     Ok(tally)
+}
+
+/// A file of cases: its name, and what stands before its parts.
+#[derive(Clone, Copy)]
+struct CaseFile<'a> {
+    name: &'a str,
+    before: &'a str,
 }
 
 /// Asks the questions of a part of a file, which begins with its heading.
@@ -60,15 +68,14 @@ fn run_part<R: Threads + Wait + Sync, S: Subject, W: Write>(
     alloc: Global,
     out: &mut W,
     subject: &S,
-    name: &str,
-    before: &str,
+    file: CaseFile<'_>,
     part: &str,
     tally: &mut Tally,
 ) -> io::Result<()> {
     let (heading, lines) = part.split_once('\n').unwrap_or((part, ""));
-    let given = given_of(alloc, before, lines)?;
+    let given = given_of(alloc, file.before, lines)?;
     let case = Case {
-        name,
+        name: file.name,
         heading,
         given: &given,
         lines,

@@ -106,7 +106,6 @@ InterfaceTable pool = IsTableText u2 (IsIndexOf IsClass pool) Anything
 interface_lawful : (pool : List Constant) → length pool < 2 ^ 16 → (total : ℕ) (earlier : List ℕ)
     → Lawful (interface_at pool total) (IsItem u2 (IsIndexOf IsClass pool) Anything earlier)
     (IndexFails (IsIndexOf IsClass pool) total)
-unfolding interface_at
 interface_lawful pool small total earlier =
     restated (index_lawful (is_class pool) (IsIndexOf IsClass pool) total (class_decides pool))
     (λ index text s. record { fits = s.1; pairs = λ k d lt. tt; spelled = s.0.1 })
@@ -192,7 +191,7 @@ header_again pool small d text s =
 
 header_lawful : (pool : List Constant) → length pool < 2 ^ 16 → (total : ℕ)
     → Lawful (header_at pool total) (IsHeader pool) (HeaderFails pool total)
-unfolding header_at this_class_at super_class_at
+unfolding header_at
 header_lawful pool small total =
     restated
     (then_lawful (number_at w16 total)

@@ -43,7 +43,6 @@ index_lawful test Rule total decides =
 pub utf8_index_lawful : (pool : List Constant) (total : ℕ)
     → Lawful (utf8_index_at pool total) (IndexOf (IsIndexOf IsUtf8 pool))
     (IndexFails (IsIndexOf IsUtf8 pool) total)
-unfolding utf8_index_at
 utf8_index_lawful pool total = index_lawful (has_utf8 pool) (IsIndexOf IsUtf8 pool) total (utf8_decides pool)
 
 -- ---- attributes' frames

@@ -152,7 +152,6 @@ text_by_read pool fault (Ok x) index rest h =
 
 pub utf8_index_has_utf8 : (pool : List Constant) (total : ℕ) (bytes : List ℕ) (index : ℕ) (rest : List ℕ)
     → utf8_index_at pool total bytes ≡ Ok (index, rest) → has_utf8 pool index ≡ true
-unfolding utf8_index_at
 utf8_index_has_utf8 pool total bytes index rest h = text_by_read pool _ (number_at w16 total bytes) index rest h
 
 descriptor_by_read : (kind : MemberKind) (pool : List Constant) (read : Result (ℕ × List ℕ) ClassFault) (index : ℕ)

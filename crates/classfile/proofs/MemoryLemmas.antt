@@ -47,7 +47,7 @@ index_never test total bytes = then_never (number_at w16 total bytes) _ (number_
     (λ index. tested_never (test index.0) (offset total bytes) index)
 
 frame_never : (pool : List Constant) (total : ℕ) (bytes : List ℕ) → Never (framed_at pool total bytes)
-unfolding framed_at utf8_index_at
+unfolding framed_at
 frame_never pool total bytes =
     then_never (utf8_index_at pool total bytes) _ (index_never (has_utf8 pool) total bytes) (λ name.
     then_never (number_at w32 total name.1) _ (number_never w32 total name.1) (λ count.

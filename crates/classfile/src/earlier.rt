@@ -14,7 +14,7 @@ use std::alloc::{AllocError, Global};
 use std::collections::{BTreeMap, BTreeSet};
 
 /// The longest table of which each member is compared with those before.
-const FEW: u16 = 32;
+const FEW: u16 = 16;
 
 /// The members so far.
 #[derive(Drop)]

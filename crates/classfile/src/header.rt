@@ -3,12 +3,11 @@
 ghost use Rattle.std.specs.Prelude.{◌≡◌};
 ghost use Rattle.classfile.specs.Gives.{Gives};
 ghost use Rattle.classfile.specs.reading.Repeat.{repeat_at};
-ghost use Rattle.classfile.specs.reading.Class.{this_class_at, super_class_at, class_indices_at};
-ghost use Rattle.classfile.specs.reading.Class.{interface_at, interfaces_at, header_at};
+ghost use Rattle.classfile.specs.reading.Class.{class_indices_at, interface_at, interfaces_at, header_at};
 
 use crate::constant::Constant;
 use crate::fault::ClassFault;
-use crate::lookup::{is_class, is_class_or_none, is_plain_class};
+use crate::index::{WantedConstant, index_at};
 use crate::numbers::{room_for, u16_at};
 use std::alloc::Global;
 use std::marker::Model;
@@ -44,42 +43,6 @@ pub(crate) struct Header {
     pub(crate) interfaces: Interfaces,
 }
 
-/// The index of a Class that is no array.
-#[tactic(auto, unfolding(crate::specs::reading::Class::this_class_at))]
-fn this_class_at<'a>(
-    pool: &[Constant],
-    total: usize,
-    bytes: &'a [u8],
-) -> Result<(u16, &'a [u8]), ClassFault>
-    ensures { Gives (λ x. (x.0, x.1.now)) result (this_class_at pool.now total bytes.now) }
-{
-    let (index, rest) = u16_at(total, bytes)?;
-    if !is_plain_class(pool, index) {
-        return Err(ClassFault::Index {
-            at: total.saturating_sub(bytes.len()),
-        });
-    }
-    Ok((index, rest))
-}
-
-/// 0, or the index of a Class.
-#[tactic(auto, unfolding(crate::specs::reading::Class::super_class_at))]
-fn super_class_at<'a>(
-    pool: &[Constant],
-    total: usize,
-    bytes: &'a [u8],
-) -> Result<(u16, &'a [u8]), ClassFault>
-    ensures { Gives (λ x. (x.0, x.1.now)) result (super_class_at pool.now total bytes.now) }
-{
-    let (index, rest) = u16_at(total, bytes)?;
-    if !is_class_or_none(pool, index) {
-        return Err(ClassFault::Index {
-            at: total.saturating_sub(bytes.len()),
-        });
-    }
-    Ok((index, rest))
-}
-
 /// The indices of the class itself and of its superclass.
 #[derive(Clone, Copy)]
 struct ClassIndices {
@@ -97,31 +60,13 @@ fn class_indices_at<'a>(
     ensures { Gives (λ x. ((x.0.this_class, x.0.super_class), x.1.now)) result
         (class_indices_at pool.now total bytes.now) }
 {
-    let (this_class, rest) = this_class_at(pool, total, bytes)?;
-    let (super_class, rest) = super_class_at(pool, total, rest)?;
+    let (this_class, rest) = index_at(WantedConstant::PlainClass, pool, total, bytes)?;
+    let (super_class, rest) = index_at(WantedConstant::ClassOrNone, pool, total, rest)?;
     let indices = ClassIndices {
         this_class,
         super_class,
     };
     Ok((indices, rest))
-}
-
-/// The index of a Class.
-#[tactic(auto, unfolding(crate::specs::reading::Class::interface_at))]
-fn interface_at<'a>(
-    pool: &[Constant],
-    total: usize,
-    bytes: &'a [u8],
-) -> Result<(u16, &'a [u8]), ClassFault>
-    ensures { Gives (λ x. (x.0, x.1.now)) result (interface_at pool.now total bytes.now) }
-{
-    let (index, rest) = u16_at(total, bytes)?;
-    if !is_class(pool, index) {
-        return Err(ClassFault::Index {
-            at: total.saturating_sub(bytes.len()),
-        });
-    }
-    Ok((index, rest))
 }
 
 #[tactic(auto, unfolding(crate::specs::reading::Class::interfaces_at))]
@@ -152,7 +97,7 @@ fn push_interfaces_at<'a>(
 {
     let mut rest = bytes;
     for _index in 0..count {
-        let (interface, after) = interface_at(pool, total, rest)?;
+        let (interface, after) = index_at(WantedConstant::Class, pool, total, rest)?;
         items.push(interface)?;
         rest = after;
     }

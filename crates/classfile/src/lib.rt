@@ -16,6 +16,7 @@ mod fault;
 pub mod flags;
 mod forms;
 mod header;
+mod index;
 mod lookup;
 mod member;
 mod modified;

@@ -17,9 +17,9 @@ use crate::constant::Constant;
 use crate::earlier::{Earlier, is_declared};
 use crate::fault::ClassFault;
 use crate::flags::has_no_body;
+use crate::index::{WantedConstant, index_at};
 use crate::numbers::{room_for, u16_at};
 use crate::pool::ConstantPool;
-use crate::unread::utf8_index_at;
 use std::alloc::Global;
 use std::marker::Model;
 
@@ -109,7 +109,7 @@ fn descriptor_at<'a>(
 ) -> Result<(u16, &'a [u8]), ClassFault>
     ensures { Gives (λ x. (x.0, x.1.now)) result (descriptor_at kind pool.now total bytes.now) }
 {
-    let (index, rest) = utf8_index_at(pool.as_slice(), total, bytes)?;
+    let (index, rest) = index_at(WantedConstant::Utf8, pool.as_slice(), total, bytes)?;
     if !has_descriptor(kind, pool, index) {
         return Err(ClassFault::Descriptor { index });
     }
@@ -136,7 +136,7 @@ fn name_and_descriptor_at<'a>(
     ensures texts { IfOk result (λ x.
         (has_utf8 pool.now x.0.name ≡ true) × (has_utf8 pool.now x.0.descriptor ≡ true)) }
 {
-    let (name, rest) = utf8_index_at(pool.as_slice(), total, bytes)?;
+    let (name, rest) = index_at(WantedConstant::Utf8, pool.as_slice(), total, bytes)?;
     let (descriptor, rest) = descriptor_at(kind, pool, total, rest)?;
     Ok((NameAndDescriptor { name, descriptor }, rest))
 }
@@ -163,22 +163,34 @@ fn lacks_code(kind: MemberKind, access_flags: u16, attributes: &Attributes) -> b
     }
 }
 
-/// The attributes of the member that begins at `at`.
+/// What stands before the attributes of a member, and where it begins.
+#[derive(Clone, Copy)]
+struct MemberHeader {
+    at: usize,
+    access_flags: u16,
+    name: u16,
+    descriptor: u16,
+}
+
+/// The attributes of the member of this header.
 #[tactic(auto, unfolding(crate::specs::reading::Members::member_body_at))]
 fn member_body_at<'a>(
     alloc: Global,
     kind: MemberKind,
     pool: &[Constant],
     total: usize,
-    at: usize,
-    access_flags: u16,
-    name: u16,
-    descriptor: u16,
+    header: MemberHeader,
     bytes: &'a [u8],
 ) -> Result<(Member, &'a [u8]), ClassFault>
-    ensures { Gives (λ x. (x.0, x.1.now)) result
-        (member_body_at kind pool.now total at access_flags name descriptor bytes.now) }
+    ensures { Gives (λ x. (x.0, x.1.now)) result (member_body_at kind pool.now total header.at header.access_flags
+        header.name header.descriptor bytes.now) }
 {
+    let MemberHeader {
+        at,
+        access_flags,
+        name,
+        descriptor,
+    } = header;
     let owner = owner_of(kind, access_flags, descriptor);
     let (attributes, rest) = attributes_at(alloc, pool, owner, total, bytes)?;
     if lacks_code(kind, access_flags, &attributes) {
@@ -216,17 +228,13 @@ fn member_at<'p, 'a>(
     if is_declared(pool.as_slice(), earlier, name, descriptor)? {
         return Err(ClassFault::Index { at });
     }
-    member_body_at(
-        alloc,
-        kind,
-        pool.as_slice(),
-        total,
+    let header = MemberHeader {
         at,
         access_flags,
         name,
         descriptor,
-        rest,
-    )
+    };
+    member_body_at(alloc, kind, pool.as_slice(), total, header, rest)
 }
 
 /// A table of fields or methods.

@@ -3,12 +3,12 @@
 ghost use Rattle.std.specs.Prelude.{◌≡◌, List};
 ghost use Rattle.classfile.specs.Gives.{Gives};
 ghost use Rattle.classfile.specs.reading.Repeat.{repeat_at};
-ghost use Rattle.classfile.specs.reading.Code.{utf8_index_at, content_at, framed_at, unread_at, unread_attributes_at};
+ghost use Rattle.classfile.specs.reading.Code.{content_at, framed_at, unread_at, unread_attributes_at};
 
 use crate::bytes::Bytes;
 use crate::constant::Constant;
 use crate::fault::ClassFault;
-use crate::lookup::has_utf8;
+use crate::index::{WantedConstant, index_at};
 use crate::numbers::{room_for, run_at, u16_at, u32_at};
 use std::alloc::Global;
 use std::marker::Model;
@@ -44,24 +44,6 @@ impl UnreadAttributes {
     }
 }
 
-/// The index of a Utf8.
-#[tactic(auto, unfolding(crate::specs::reading::Code::utf8_index_at))]
-pub(crate) fn utf8_index_at<'a>(
-    pool: &[Constant],
-    total: usize,
-    bytes: &'a [u8],
-) -> Result<(u16, &'a [u8]), ClassFault>
-    ensures { Gives (λ x. (x.0, x.1.now)) result (utf8_index_at pool.now total bytes.now) }
-{
-    let (index, rest) = u16_at(total, bytes)?;
-    if !has_utf8(pool, index) {
-        return Err(ClassFault::Index {
-            at: total.saturating_sub(bytes.len()),
-        });
-    }
-    Ok((index, rest))
-}
-
 /// A length, and as many bytes.
 #[tactic(auto, unfolding(crate::specs::reading::Code::content_at))]
 fn content_at(total: usize, bytes: &[u8]) -> Result<(&[u8], &[u8]), ClassFault>
@@ -80,7 +62,7 @@ pub(crate) fn framed_at<'a>(
 ) -> Result<((u16, &'a [u8]), &'a [u8]), ClassFault>
     ensures { Gives (λ x. ((x.0.0, x.0.1.now), x.1.now)) result (framed_at pool.now total bytes.now) }
 {
-    let (name, rest) = utf8_index_at(pool, total, bytes)?;
+    let (name, rest) = index_at(WantedConstant::Utf8, pool, total, bytes)?;
     let (content, rest) = content_at(total, rest)?;
     Ok(((name, content), rest))
 }

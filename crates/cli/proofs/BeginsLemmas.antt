@@ -10,12 +10,14 @@ use Rattle.command_line.specs.declared.request.Request.TheVariants as requests
 use Rattle.command_line.specs.declared.request.Run.{Run}
 use Rattle.cli.specs.declared.running.CutShort.TheVariants.{Memory}
 use Rattle.cli.specs.declared.status.Status.{Status}
-use Rattle.cli.specs.Begins.{IsBegun, IsBegunFromImage}
+use Rattle.cli.specs.Begins.{IsBegun, IsBegunFromFile}
 use Rattle.cli.specs.Done.{HasEndedByTurns, HasEndedWithJournal, HasRunImage, HasRunLazily}
 use Rattle.cli.specs.Entries.{entry_names}
-use Rattle.cli.specs.Files.{AreTextsOf, Contents}
+use Rattle.cli.specs.Files.{AreBytesOf, AreTextsOf, Contents}
+use Rattle.cli.specs.ImageRuns.{IsSomeTextOf}
 use Rattle.cli.specs.Running.{IsCutShort, IsOfRun}
 use Rattle.cli.specs.Runs.{IsProgramOf}
+use Rattle.cli.specs.steps.Starts.{IsBegunFrom, IsBegunFromBytes}
 
 -- what holds a program holds one of the same texts
 pub program_kept : {S E : Type 0} (program : S → Tables) (texts : List (List ℕ)) (P : Tables) (r : Result S E)
@@ -32,6 +34,40 @@ module _ {S E : Type 0} (world : S → World) (holds : Contents) where
       record { files = files; held = held; program = is; start = start }
   begun words program files (Err e) held is start = tt
 
+-- ---- starts from images
+
+pub begun_from_file : (holds : Contents) (name list bytes : List ℕ) (P : Tables) (w : World)
+    → AreBytesOf (holds name) bytes → IsBegunFromBytes bytes list P w → IsBegunFromFile holds name list P w
+begun_from_file holds name list bytes P w held is = record {
+  image = is.image;
+  program = is.begun.program;
+  begun = record {
+    bytes = bytes;
+    held = held;
+    text = is.text;
+    program = is.begun.linked;
+    start = is.begun.start;
+  };
+}
+
+module _ {S E : Type 0} (program : S → Tables) (world : S → World) where
+  pub start_from_file : (holds : Contents) (name list bytes : List ℕ) (r : Result S E)
+      → AreBytesOf (holds name) bytes → IfOk r (λ s. IsBegunFromBytes bytes list (program s) (world s))
+      → IfOk r (λ s. IsBegunFromFile holds name list (program s) (world s))
+  start_from_file holds name list bytes (Ok s) held is =
+      begun_from_file holds name list bytes (program s) (world s) held is
+  start_from_file holds name list bytes (Err e) held is = tt
+
+  pub start_from_bytes : (bytes list : List ℕ) (I : ImageTables) (names : List (List ℕ)) (r : Result S E)
+      → names ≡ entry_names list → IsSomeTextOf bytes I → IfOk r (λ s. IsBegunFrom I names (program s) (world s))
+      → IfOk r (λ s. IsBegunFromBytes bytes list (program s) (world s))
+  start_from_bytes bytes list I names (Ok s) are text is = record {
+    image = I;
+    text = text;
+    begun = subst (λ (ns : List (List ℕ)). IsBegunFrom I ns (program s) (world s)) are is;
+  }
+  start_from_bytes bytes list I names (Err e) are text is = tt
+
 -- ---- runs from there
 
 module _ (holds : Contents) (first : World) (before after : Option (List ℕ)) where
@@ -43,23 +79,18 @@ module _ (holds : Contents) (first : World) (before after : Option (List ℕ)) w
       → HasEndedByTurns P first words.limit before after status → HasRunLazily holds words before after status
   has_run_lazily words P status begun ended = record { program = P; first = first; begun = begun; ended = ended }
 
-  pub of_image_run : (words : Run) (I : ImageTables) (P : Tables) → P ≡ I.program
-      → IsBegunFromImage holds words.image.now words.entries.now I first
+  pub of_image_run : (words : Run) (P : Tables) → IsBegunFromFile holds words.image.now words.entries.now P first
       → IsCutShort P first before after Memory → IsOfRun holds (requests.Run words) before after
-  of_image_run words I P same begun cut = record {
-    program = P;
-    first = first;
-    begun = record { image = I; program = sym same; begun = begun };
-    cut = cut;
-  }
+  of_image_run words P begun cut = record { program = P; first = first; begun = begun; cut = cut }
 
-  pub has_run_image : (new : Contents) (words : Run) (I : ImageTables) (P : Tables) (status : Status) → P ≡ I.program
-      → IsBegunFromImage holds words.image.now words.entries.now I first
+  pub has_run_image : (new : Contents) (words : Run) (P : Tables) (status : Status)
+      → IsBegunFromFile holds words.image.now words.entries.now P first
       → HasEndedWithJournal holds new words.journal P first before after status
       → HasRunImage holds new words before after status
-  has_run_image new words I P status same begun ended = record {
-    image = I;
+  has_run_image new words P status begun ended = record {
+    image = begun.image;
     first = first;
-    begun = begun;
-    ended = subst (λ (Q : Tables). HasEndedWithJournal holds new words.journal Q first before after status) same ended;
+    begun = begun.begun;
+    ended = subst (λ (Q : Tables). HasEndedWithJournal holds new words.journal Q first before after status)
+        (sym begun.program) ended;
   }

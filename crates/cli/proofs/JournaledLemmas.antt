@@ -1,15 +1,15 @@
 -- Runs with their journals, and what of their text has gone out.
 use Rattle.std.proofs.Common.{◌≡◌, ◌∙◌, ◌≢◌, ◌⊎◌, inl, inr, ℕ, Bool, true, false, List, Option, Some, None, length}
-use Rattle.std.proofs.Common.{refl, sym, ap, subst, arith, if◌then◌else◌, IfOk, Ok, Err, Result}
+use Rattle.std.proofs.Common.{sym, ap, subst, arith, if◌then◌else◌, IfOk, Ok, Err, Result}
 use Rattle.std.proofs.Math.Seq.{take-length}
 use Rattle.std.specs.Borrow.{Bor}
 use Rattle.std.specs.Io.KnownBytes.{Appends, Keeps}
 use Rattle.std.specs.List.{list_all, list_any}
 use Rattle.vm_state.specs.declared.ends.Ending.{Ending}
 use Rattle.vm_state.specs.Output.{Print, text_of}
-use Rattle.semantics.specs.Worlds.{World, seen}
+use Rattle.semantics.specs.Worlds.{World, Run as Reaches, seen}
 use Rattle.program.specs.Tables.{Tables}
-use Rattle.object_graph.specs.Images.{ImageTables}
+use Rattle.machine.specs.Linked.{program_of}
 use Rattle.init_engine.specs.Schedules.{schedule_of}
 use Rattle.journal.specs.Journals.{IsJournalOf}
 use Rattle.command_line.specs.declared.request.Replay.{Replay}
@@ -21,7 +21,7 @@ use Rattle.cli.specs.declared.running.CutShort.TheVariants.{Device, Memory}
 use Rattle.cli.specs.declared.status.Status.{Status}
 use Rattle.cli.specs.declared.status.Status.TheVariants.{Done, Ended, Limit, Refused, Words}
 use Rattle.cli.specs.Done.{HasEndedWithJournal, HasReplayed, IsWritten}
-use Rattle.cli.specs.Begins.{IsBegunFromImage}
+use Rattle.cli.specs.Begins.{IsBegunFromFile}
 use Rattle.cli.specs.Files.{AreBytesOf, Contents}
 use Rattle.cli.specs.Journaled.{IsJournaled, IsReplayed, IsReplayOf}
 use Rattle.cli.specs.Running.{IsCutShort, IsOfRun, cut_of}
@@ -60,22 +60,21 @@ ended_with_journal old new journal P first before after ran status is told writt
 -- ---- replays
 
 -- a replay of what files hold, where what it is made of is theirs
-pub replay_of : (holds : Contents) (words : Replay) (I : ImageTables) (first : World) (text : List ℕ)
+pub replay_of : (holds : Contents) (words : Replay) (P : Tables) (first : World) (text : List ℕ)
     (result : Result (ImageSeen × Status) Refusal)
-    → IsBegunFromImage holds words.image.now words.entries.now I first → AreBytesOf (holds words.journal.now) text
+    → IsBegunFromFile holds words.image.now words.entries.now P first → AreBytesOf (holds words.journal.now) text
     → IfOk result (λ r. (runs : List (ℕ × ℕ)) × IsJournalOf text runs × IsReplayed first runs r.0 r.1)
-    → IfOk result (λ r. r.0.image ≡ I) → IfOk result (λ r. IsReplayOf holds words r.0 r.1)
-replay_of holds words I first text (Ok r) begun held (runs, journal, leads) image = record {
+    → IfOk result (λ r. r.0.program ≡ P) → IfOk result (λ r. IsReplayOf holds words r.0 r.1)
+replay_of holds words P first text (Ok r) begun held (runs, journal, leads) program = record {
   first = first;
-  begun = subst (λ (J : ImageTables). IsBegunFromImage holds words.image.now words.entries.now J first) (sym image)
-      begun;
+  begun = subst (λ (Q : Tables). IsBegunFromFile holds words.image.now words.entries.now Q first) (sym program) begun;
   bytes = text;
   held = held;
   runs = runs;
   journal = journal;
   leads = leads;
 }
-replay_of holds words I first text (Err _) begun held replayed image = tt
+replay_of holds words P first text (Err _) begun held replayed program = tt
 
 -- a replay of which nothing has gone out, or all
 pub of_replay : (holds : Contents) (words : Replay) (before after : Option (List ℕ)) (replayed : ImageSeen)
@@ -83,9 +82,9 @@ pub of_replay : (holds : Contents) (words : Replay) (before after : Option (List
     → (after ≡ before) ⊎ Appends before after (text_of replayed.seen.printed)
     → IsOfRun holds (requests.Replay words) before after
 of_replay holds words before after replayed status is (inl same) = record {
-  program = replayed.image.program;
+  program = replayed.program;
   first = is.first;
-  begun = record { image = replayed.image; program = refl; begun = is.begun };
+  begun = is.begun;
   cut = record {
     schedule = schedule_of is.runs;
     last = is.leads.shown.last;
@@ -94,10 +93,10 @@ of_replay holds words before after replayed status is (inl same) = record {
   };
 }
 of_replay holds words before after replayed status is (inr sent) = record {
-  program = replayed.image.program;
+  program = replayed.program;
   first = is.first;
-  begun = record { image = replayed.image; program = refl; begun = is.begun };
-  cut = cut_at_end replayed.image.program is.first (schedule_of is.runs) is.leads.shown.last before after
+  begun = is.begun;
+  cut = cut_at_end replayed.program is.first (schedule_of is.runs) is.leads.shown.last before after
       is.leads.shown.run
       (subst (λ (prints : List Print). Appends before after (text_of prints)) is.leads.shown.observed.0 sent);
 }
@@ -107,15 +106,16 @@ pub has_replayed : (holds : Contents) (words : Replay) (before after : Option (L
     → (told ≡ status) × Appends before after (text_of replayed.seen.printed)
     → HasReplayed holds words before after told
 has_replayed holds words before after replayed status told is (same, sent) = record {
-  image = replayed.image;
+  image = is.begun.image;
   first = is.first;
-  begun = is.begun;
+  begun = is.begun.begun;
   bytes = is.bytes;
   held = is.held;
   runs = is.runs;
   journal = is.journal;
   last = is.leads.shown.last;
-  run = is.leads.shown.run;
+  run = subst (λ (P : Tables). Reaches (program_of P) is.first (schedule_of is.runs) is.leads.shown.last)
+      (sym is.begun.program) is.leads.shown.run;
   status_is = same ∙ (is.leads.status_is ∙ ap replay_status is.leads.shown.observed.1);
   sent = subst (λ (prints : List Print). Appends before after (text_of prints)) is.leads.shown.observed.0 sent;
 }

@@ -20,28 +20,30 @@ pub record IsClassOf (P : Tables) (words : List ℕ) (c : ℕ) : Type 0 where
   pub named : name_in P.family c ≡ Some (units_text name)
 
 -- The text is the one on the class of that name.
-pub record IsToldOfClass (answer : Built) (at_run_time : List Bool) (budget : ℕ) (words text : List ℕ) : Type 0 where
+pub record IsExplanationOfClass (answer : Built) (at_run_time : List Bool) (budget : ℕ) (words text : List ℕ)
+    : Type 0 where
   pub class : ℕ
   pub is : IsClassOf answer.image.program words class
   pub told : IsClassText answer.image answer.verdicts at_run_time budget class text
 
 -- The text is the one on all classes where the words say `all`, and else the one on the class of their name.
-abbrev pub IsToldOf : Built → List Bool → ℕ → List ℕ → List ℕ → Type 0
-IsToldOf answer at_run_time budget words text =
+abbrev pub IsExplanationOf : Built → List Bool → ℕ → List ℕ → List ℕ → Type 0
+IsExplanationOf answer at_run_time budget words text =
     ((words ≡ codes "all") × IsAllText answer.image answer.verdicts at_run_time text)
-    ⊎ ((words ≢ codes "all") × IsToldOfClass answer at_run_time budget words text)
+    ⊎ ((words ≢ codes "all") × IsExplanationOfClass answer at_run_time budget words text)
 
 -- The text is told where those classes are forced that a list of patterns says.
-pub record IsToldBy (answer : Built) (run_time : Option (List ℕ)) (budget : ℕ) (words text : List ℕ) : Type 0 where
+pub record IsExplanationBy (answer : Built) (run_time : Option (List ℕ)) (budget : ℕ) (words text : List ℕ)
+    : Type 0 where
   pub at_run_time : List Bool
   pub forced : AreClasses at_run_time (IsForced answer.image.program.family (patterns_in run_time))
-  pub told : IsToldOf answer at_run_time budget words text
+  pub told : IsExplanationOf answer at_run_time budget words text
 
 -- The class files are built in memory, and this is told of that build, as the words say.
 pub record IsExplained (holds : Contents) (words : Explain) (text : List ℕ) : Type 0 where
   pub answer : Built
   pub asked : IsAskedBuild holds words.building answer
-  pub told : IsToldBy answer (text_of words.building.run_time) words.building.budget words.class.now text
+  pub told : IsExplanationBy answer (text_of words.building.run_time) words.building.budget words.class.now text
 
 -- Such a text went out.
 pub record HasExplained (holds : Contents) (words : Explain) (before after : Option (List ℕ)) : Type 0 where

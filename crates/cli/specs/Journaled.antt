@@ -15,7 +15,7 @@ use Rattle.cli.specs.declared.by_threads.Journaled.{Journaled}
 use Rattle.cli.specs.declared.fault.Refusal.{Refusal}
 use Rattle.cli.specs.declared.status.Status.{Status}
 use Rattle.command_line.specs.declared.request.Replay.{Replay}
-use Rattle.cli.specs.Begins.{IsBegunFromImage}
+use Rattle.cli.specs.Begins.{IsBegunFromFile}
 use Rattle.cli.specs.Files.{AreBytesOf, Contents}
 use Rattle.cli.specs.Refusal.{refusal_status}
 use Rattle.cli.specs.Running.{IsCutShort, cut_of}
@@ -39,14 +39,14 @@ IsOutcome P first before after (Err refusal) = IsCutShort P first before after (
 
 -- A journal, run from a start of an image, leads to a world in which this is seen.
 pub record IsReplayed (first : World) (runs : List (ℕ × ℕ)) (replayed : ImageSeen) (status : Status) : Type 0 where
-  pub shown : IsReplay (program_of replayed.image.program) first runs replayed.seen
+  pub shown : IsReplay (program_of replayed.program) first runs replayed.seen
   pub status_is : status ≡ replay_status replayed.seen.threads.items
 
 -- The journal that a file holds, run from the entries of the words, of the image that another file holds, leads to a
 -- world in which this is seen.
 pub record IsReplayOf (holds : Contents) (words : Replay) (replayed : ImageSeen) (status : Status) : Type 0 where
   pub first : World
-  pub begun : IsBegunFromImage holds words.image.now words.entries.now replayed.image first
+  pub begun : IsBegunFromFile holds words.image.now words.entries.now replayed.program first
   pub bytes : List ℕ
   pub held : AreBytesOf (holds words.journal.now) bytes
   pub runs : List (ℕ × ℕ)

@@ -2,3 +2,4 @@ pub mod Refusals
 pub mod Builds
 pub mod BuildTexts
 pub mod Lists
+pub mod Starts

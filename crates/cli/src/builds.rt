@@ -80,7 +80,7 @@ pub fn build<G: Gate, R: Threads + Wait + Sync>(
     workers: u32,
     gate: &G,
 ) -> Result<Built, BuildFault>
-    // The same as of `build_here`, and so the headline.
+    // What `build_here` promises, and so the headline.
     ensures build { IfOk result (IsBuildOfClassFiles (texts_of files.now) options.now) }
     // Nothing is built but for want of memory, or for the first that is wrong.
     ensures fault { IfErr result (λ fault. (fault ≡ Memory) ⊎ (fault ≡ Wave Workers) ⊎ BuildFails (texts_of files.now)

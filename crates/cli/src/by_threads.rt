@@ -115,7 +115,7 @@ pub(crate) fn replayed<F: Files>(
 {
     let image = get(alloc, words.image, files)?;
     let journal = get(alloc, words.journal, files)?;
-    let start = start_of(alloc, words.entries, image)?;
+    let start = start_of(alloc, words.entries, image, words.stacks)?;
     replay_text(alloc, start, journal.as_slice())
 }
 
@@ -127,7 +127,7 @@ fn replay_text(
 ) -> Result<(ImageSeen, Status), Refusal>
     ensures replayed { IfOk result (λ r. (runs : List (ℕ × ℕ)) × IsJournalOf text.now runs
         × IsReplayed (world_of start.world) runs r.0 r.1) }
-    ensures image { IfOk result (λ r. r.0.image ≡ start.image) }
+    ensures program { IfOk result (λ r. r.0.program ≡ start.program) }
 {
     match Journal::parse(alloc, text) {
         Ok(journal) => replay_journal(alloc, start, journal),
@@ -142,15 +142,20 @@ fn replay_journal(
     journal: Journal,
 ) -> Result<(ImageSeen, Status), Refusal>
     ensures replayed { IfOk result (λ r. IsReplayed (world_of start.world) journal r.0 r.1) }
-    ensures image { IfOk result (λ r. r.0.image ≡ start.image) }
+    ensures program { IfOk result (λ r. r.0.program ≡ start.program) }
 {
-    let ImageStart { image, world } = start;
-    match replay(alloc, image.program(), world, &journal) {
+    let ImageStart {
+        program,
+        world,
+        again,
+    } = start;
+    match replay(alloc, &program, world, &journal) {
         Ok(seen) => {
             let status = replay_status(seen.threads.as_slice());
             Ok((
                 ImageSeen {
-                    image,
+                    program,
+                    again,
                     journal,
                     seen,
                 },
@@ -161,10 +166,12 @@ fn replay_journal(
     }
 }
 
-/// An image, and what a replay of it by a journal has shown.
+/// The program of an image, and what a replay of the image by a journal has shown.
 #[derive(Drop)]
 pub(crate) struct ImageSeen {
-    pub image: object_graph::Image,
+    pub program: Program,
+    /// The world of the start once more, where stacks are told.
+    pub again: Option<World>,
     pub journal: Journal,
     pub seen: Seen,
 }

@@ -1,7 +1,8 @@
 //! The command `explain`: a build in memory, and all that stands against one class, or against each.
 ghost use Rattle.std.specs.Prelude.{◌≡◌, ◌↔◌, codes, IfOk, IsTrue};
 ghost use Rattle.building.specs.Builds.{patterns_in, text_of};
-ghost use Rattle.cli.specs.Explanations.{IsClassOf, IsExplained, IsToldBy, IsToldOf, IsToldOfClass};
+ghost use Rattle.cli.specs.Explanations.{IsClassOf, IsExplained};
+ghost use Rattle.cli.specs.Explanations.{IsExplanationBy, IsExplanationOf, IsExplanationOfClass};
 ghost use Rattle.explain.specs.Texts.{IsAllText};
 ghost use Rattle.options.specs.Classes.{AreClasses, IsForced};
 ghost use Rattle.report.specs.Waves.{GiveWaves};
@@ -33,7 +34,7 @@ pub(crate) fn run<R: Threads + Wait + Sync, F: Files, H: Watch + Sync>(
     ensures same { F.holds files.new ≡ F.holds files.old }
 {
     match asked_build(rt, alloc, &words.building, files, watch) {
-        Ok(built) => told(alloc, &built, &words.building, words.class),
+        Ok(built) => explanation(alloc, &built, &words.building, words.class),
         Err(refusal) => Err(refusal),
     }
 }
@@ -58,7 +59,7 @@ fn forced_by(alloc: Global, program: &Program, list: Option<&str>) -> Result<For
 }
 
 /// The explanation of a build's classes, where those are forced that the words say.
-fn told(
+fn explanation(
     alloc: Global,
     built: &Built,
     building: &Building<'_>,
@@ -66,17 +67,17 @@ fn told(
 ) -> Result<Vec<u8>, Refusal>
     requires { GiveWaves built.now.image built.now.verdicts }
     ensures { IfOk result
-        (λ text. IsToldBy built.now (text_of building.now.run_time) building.now.budget class.now text.items) }
+        (λ text. IsExplanationBy built.now (text_of building.now.run_time) building.now.budget class.now text.items) }
 {
     let Ok(forced) = forced_by(alloc, built.image.program(), building.run_time) else {
         return Err(Refusal::Memory);
     };
-    let text = told_of(alloc, built, &forced, building.budget, class)?;
+    let text = explanation_of(alloc, built, &forced, building.budget, class)?;
     Ok(text)
 }
 
 /// The explanation of a build's classes, where these are forced.
-fn told_of(
+fn explanation_of(
     alloc: Global,
     built: &Built,
     forced: &Forced,
@@ -84,13 +85,13 @@ fn told_of(
     class: &str,
 ) -> Result<Vec<u8>, Refusal>
     requires { GiveWaves built.now.image built.now.verdicts }
-    ensures { IfOk result (λ text. IsToldOf built.now forced.now budget class.now text.items) }
+    ensures { IfOk result (λ text. IsExplanationOf built.now forced.now budget class.now text.items) }
 {
     if is_all(class) {
-        let text = told_of_all(alloc, built, forced)?;
+        let text = explanation_of_all(alloc, built, forced)?;
         Ok(text)
     } else {
-        let text = told_of_class(alloc, built, forced, budget, class)?;
+        let text = explanation_of_class(alloc, built, forced, budget, class)?;
         Ok(text)
     }
 }
@@ -103,7 +104,7 @@ fn is_all(class: &str) -> bool
 }
 
 /// The explanation of all classes.
-fn told_of_all(alloc: Global, built: &Built, forced: &Forced) -> Result<Vec<u8>, AllocError>
+fn explanation_of_all(alloc: Global, built: &Built, forced: &Forced) -> Result<Vec<u8>, AllocError>
     requires { GiveWaves built.now.image built.now.verdicts }
     ensures { IfOk result (λ text. IsAllText built.now.image built.now.verdicts forced.now text.items) }
 {
@@ -112,7 +113,7 @@ fn told_of_all(alloc: Global, built: &Built, forced: &Forced) -> Result<Vec<u8>,
 }
 
 /// The explanation of the class of a name with dots.
-fn told_of_class(
+fn explanation_of_class(
     alloc: Global,
     built: &Built,
     forced: &Forced,
@@ -120,7 +121,7 @@ fn told_of_class(
     class: &str,
 ) -> Result<Vec<u8>, Refusal>
     requires { GiveWaves built.now.image built.now.verdicts }
-    ensures { IfOk result (λ text. IsToldOfClass built.now forced.now budget class.now text.items) }
+    ensures { IfOk result (λ text. IsExplanationOfClass built.now forced.now budget class.now text.items) }
 {
     let number = number_of(alloc, built.image.program(), class)?;
     let verdicts = built.verdicts.as_slice();

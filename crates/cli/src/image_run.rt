@@ -5,20 +5,21 @@ ghost use Rattle.init_engine.specs.Starts.{IsEntryCount};
 ghost use Rattle.init_engine.specs.Turns.{world_of};
 ghost use Rattle.init_engine.specs.declared.fault.EntryFault.TheVariants.{Count};
 ghost use Rattle.image_reader.specs.Starts.{IsImageStart};
-ghost use Rattle.cli.specs.Begins.{IsBegunFromImage};
-ghost use Rattle.cli.specs.Entries.{entry_names};
+ghost use Rattle.cli.specs.Begins.{IsBegunFromFile};
 ghost use Rattle.cli.specs.ImageBuilds.{IsBuiltText, IsImageOf};
 ghost use Rattle.cli.specs.ImageRuns.{IsNoRun, IsShownFromImage, IsSomeTextOf};
+ghost use Rattle.cli.specs.steps.Starts.{IsBegunFrom, IsBegunFromBytes};
 ghost use Rattle.cli.specs.declared.fault.Refusal.TheVariants.{Entry, Memory};
 
 use crate::entries::is_entry_count;
 use crate::files::get;
 use crate::lazy::{Shown, shown_by_turns};
-use crate::{Files, Refusal, entries_of};
+use crate::{Files, Refusal, Run, entries_of};
 use classfile::ClassName;
-use image_reader::{read, read_by_two, world};
+use image_reader::{into_world, read, read_by_two, world};
 use init_engine::{EntryFault, World};
 use object_graph::Image;
+use program::Program;
 use std::alloc::Global;
 use std::thread::Threads;
 
@@ -61,8 +62,8 @@ pub fn run_image(
     if !is_entry_count(entries.len()) {
         return Err(Refusal::Entry(EntryFault::Count));
     }
-    match image_start(alloc, bytes, entries) {
-        Ok(ImageStart { image, world }) => {
+    match image_world(alloc, bytes, entries) {
+        Ok(ImageWorld { image, world }) => {
             let shown = shown_by_turns(alloc, image.program(), world, limit)?;
             Ok(ImageRun { image, shown })
         }
@@ -72,13 +73,13 @@ pub fn run_image(
 
 /// An image, and the world that starts from it.
 #[derive(Drop)]
-pub(crate) struct ImageStart {
-    pub image: Image,
-    pub world: World,
+struct ImageWorld {
+    image: Image,
+    world: World,
 }
 
 /// The start from an image of these bytes.
-fn image_start(alloc: Global, bytes: &[u8], entries: &[ClassName]) -> Result<ImageStart, Refusal>
+fn image_world(alloc: Global, bytes: &[u8], entries: &[ClassName]) -> Result<ImageWorld, Refusal>
     ensures image { IfOk result (λ start. IsSomeTextOf bytes.now start.image) }
     ensures program { IfOk result (λ start. IsProgram start.image.program) }
     ensures start { IfOk result (λ start. IsImageStart start.image entries.now (world_of start.world)) }
@@ -92,12 +93,21 @@ fn image_start(alloc: Global, bytes: &[u8], entries: &[ClassName]) -> Result<Ima
         Ok(image) => {
             let _classes = image.program().classes();
             match world(alloc, &image, entries) {
-                Ok(world) => Ok(ImageStart { image, world }),
+                Ok(world) => Ok(ImageWorld { image, world }),
                 Err(fault) => Err(Refusal::of_entry(fault)),
             }
         }
         Err(fault) => Err(Refusal::of_image(fault)),
     }
+}
+
+/// The program of an image, and a world that starts from it.
+#[derive(Drop)]
+pub(crate) struct ImageStart {
+    pub program: Program,
+    pub world: World,
+    /// The same world once more, where stacks are told after the run.
+    pub again: Option<World>,
 }
 
 /// Reads the image of a file, and answers the start from it, from the entries of a list. Another thread may look at the
@@ -108,16 +118,15 @@ fn image_start(alloc: Global, bytes: &[u8], entries: &[ClassName]) -> Result<Ima
 pub(crate) fn start<R: Threads, F: Files>(
     rt: &R,
     alloc: Global,
-    name: &str,
-    list: &str,
+    words: &Run<'_>,
     files: &mut F,
 ) -> Result<ImageStart, Refusal>
-    ensures begun { IfOk result
-        (λ start. IsBegunFromImage (F.holds files.old) name.now list.now start.image (world_of start.world)) }
+    ensures begun { IfOk result (λ start. IsBegunFromFile (F.holds files.old) words.now.image.now words.now.entries.now
+        start.program (world_of start.world)) }
     ensures same { F.holds files.new ≡ F.holds files.old }
 {
-    match get(alloc, name, files) {
-        Ok(bytes) => start_by_two(rt, alloc, list, bytes),
+    match get(alloc, words.image, files) {
+        Ok(bytes) => start_by_two(rt, alloc, words.entries, bytes, words.stacks),
         Err(refusal) => Err(refusal),
     }
 }
@@ -129,46 +138,87 @@ fn start_by_two<R: Threads>(
     alloc: Global,
     list: &str,
     bytes: Vec<u8>,
+    stacks: bool,
 ) -> Result<ImageStart, Refusal>
-    ensures text { IfOk result (λ start. IsSomeTextOf bytes.items start.image) }
-    ensures program { IfOk result (λ start. IsProgram start.image.program) }
-    ensures start { IfOk result (λ start. IsImageStart start.image (entry_names list.now) (world_of start.world)) }
+    ensures { IfOk result (λ start. IsBegunFromBytes bytes.items list.now start.program (world_of start.world)) }
 {
     let entries = entries_of(alloc, list)?;
     match read_by_two(rt, alloc, bytes.as_slice()) {
         Ok(image) => {
             drop(bytes);
-            started(alloc, image, entries.as_slice())
+            started(alloc, image, entries.as_slice(), stacks)
         }
         Err(fault) => Err(Refusal::of_image(fault)),
     }
 }
 
 /// The start from an image of these bytes, from the entries of a list. The bytes are let go before the world is made.
-pub(crate) fn start_of(alloc: Global, list: &str, bytes: Vec<u8>) -> Result<ImageStart, Refusal>
-    ensures text { IfOk result (λ start. IsSomeTextOf bytes.items start.image) }
-    ensures program { IfOk result (λ start. IsProgram start.image.program) }
-    ensures start { IfOk result (λ start. IsImageStart start.image (entry_names list.now) (world_of start.world)) }
+pub(crate) fn start_of(
+    alloc: Global,
+    list: &str,
+    bytes: Vec<u8>,
+    stacks: bool,
+) -> Result<ImageStart, Refusal>
+    ensures { IfOk result (λ start. IsBegunFromBytes bytes.items list.now start.program (world_of start.world)) }
 {
     let entries = entries_of(alloc, list)?;
     match read(alloc, bytes.as_slice()) {
         Ok(image) => {
             drop(bytes);
-            started(alloc, image, entries.as_slice())
+            started(alloc, image, entries.as_slice(), stacks)
         }
         Err(fault) => Err(Refusal::of_image(fault)),
     }
 }
 
 /// The start from an image.
-fn started(alloc: Global, image: Image, entries: &[ClassName]) -> Result<ImageStart, Refusal>
-    ensures same { IfOk result (λ start. start.image ≡ image) }
-    ensures program { IfOk result (λ start. IsProgram start.image.program) }
-    ensures start { IfOk result (λ start. IsImageStart start.image entries.now (world_of start.world)) }
+fn started(
+    alloc: Global,
+    image: Image,
+    entries: &[ClassName],
+    stacks: bool,
+) -> Result<ImageStart, Refusal>
+    ensures { IfOk result (λ start. IsBegunFrom image entries.now start.program (world_of start.world)) }
 {
     let _classes = image.program().classes();
-    match world(alloc, &image, entries) {
-        Ok(world) => Ok(ImageStart { image, world }),
+    match copied_world(alloc, &image, entries, stacks) {
+        Ok(again) => moved_start(alloc, image, entries, again),
+        Err(fault) => Err(Refusal::of_entry(fault)),
+    }
+}
+
+/// A world that starts from an image, if it is wanted.
+fn copied_world(
+    alloc: Global,
+    image: &Image,
+    entries: &[ClassName],
+    wanted: bool,
+) -> Result<Option<World>, EntryFault> {
+    if !wanted {
+        return Ok(None);
+    }
+    match world(alloc, image, entries) {
+        Ok(world) => Ok(Some(world)),
+        Err(fault) => Err(fault),
+    }
+}
+
+/// The start from an image whose regions are moved there.
+fn moved_start(
+    alloc: Global,
+    image: Image,
+    entries: &[ClassName],
+    again: Option<World>,
+) -> Result<ImageStart, Refusal>
+    requires { IsProgram image.program }
+    ensures { IfOk result (λ start. IsBegunFrom image entries.now start.program (world_of start.world)) }
+{
+    match into_world(alloc, image, entries) {
+        Ok((program, world)) => Ok(ImageStart {
+            program,
+            world,
+            again,
+        }),
         Err(fault) => Err(Refusal::of_entry(fault)),
     }
 }

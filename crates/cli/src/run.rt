@@ -32,7 +32,6 @@ use crate::{
 };
 use init_engine::World;
 use journal::Journal;
-use object_graph::Image;
 use program::Program;
 use std::alloc::Global;
 use std::io::Write;
@@ -85,7 +84,6 @@ pub fn command<R: Threads + Wait + Sync, F: Files, W: Write + Send + Drop, E: Wr
 pub enum Held {
     Nothing,
     Program(Program),
-    Image(Image),
 }
 
 /// How a command ended.
@@ -271,13 +269,19 @@ fn do_given<R: Threads + Wait + Sync, F: Files, W: Write + Send + Drop, E: Write
         Some(clash) => (tell_overwritten(clash, errors), Held::Nothing, out),
         None => {
             tell_no_files(request, errors);
-            do_told(rt, alloc, request, files, out, errors, watch)
+            do_and_tell(rt, alloc, request, files, out, errors, watch)
         }
     }
 }
 
 /// Does the command of a request, and tells what is left to be told of a refusal. Answers standard output back.
-fn do_told<R: Threads + Wait + Sync, F: Files, W: Write + Send + Drop, E: Write, H: Watch + Sync>(
+fn do_and_tell<
+    R: Threads + Wait + Sync,
+    F: Files,
+    W: Write + Send + Drop,
+    E: Write,
+    H: Watch + Sync,
+>(
     rt: &R,
     alloc: Global,
     request: &Request<'_>,
@@ -398,7 +402,7 @@ fn run_image<R: Threads + Wait + Sync, F: Files, W: Write + Send + Drop, E: Erro
     ensures done { IsOver result.0 → IsDone (F.holds files.old) (F.holds files.new) (W.contents out)
         (W.contents result.2) (Request.Run words.now) result.0 }
 {
-    match image_run::start(rt, alloc, words.image, words.entries, files) {
+    match image_run::start(rt, alloc, words, files) {
         Ok(start) => run_told(rt, alloc, start, words, files, out, errors),
         Err(refusal) => (refuse(&refusal, errors), Held::Nothing, out),
     }
@@ -414,20 +418,24 @@ fn run_told<R: Threads + Wait + Sync, F: Files, W: Write + Send + Drop, E: Error
     out: W,
     errors: &mut E,
 ) -> (Status, Held, W)
-    ensures refused { result.0 ≡ Status.Refused → IsCutShort start.image.program (world_of start.world)
+    ensures refused { result.0 ≡ Status.Refused → IsCutShort start.program (world_of start.world)
         (W.contents out) (W.contents result.2) CutShort.Memory }
     ensures words { result.0 ≢ Status.Words }
     ensures done { IsOver result.0 → HasEndedWithJournal (F.holds files.old) (F.holds files.new) words.now.journal
-        start.image.program (world_of start.world) (W.contents out) (W.contents result.2) result.0 }
+        start.program (world_of start.world) (W.contents out) (W.contents result.2) result.0 }
 {
-    let ImageStart { image, world } = start;
-    let (outcome, out) = run_as_said(rt, alloc, image.program(), world, words, out);
+    let ImageStart {
+        program,
+        world,
+        again,
+    } = start;
+    let (outcome, out) = run_as_said(rt, alloc, &program, world, words, out);
     match outcome {
         Ok(ran) => {
-            let status = tell_run_and_stacks(alloc, &image, words, &ran, files, errors);
-            (status, Held::Image(image), out)
+            let status = tell_run_and_stacks(alloc, &program, again, words, &ran, files, errors);
+            (status, Held::Program(program), out)
         }
-        Err(refusal) => (refuse(&refusal, errors), Held::Image(image), out),
+        Err(refusal) => (refuse(&refusal, errors), Held::Program(program), out),
     }
 }
 
@@ -486,10 +494,12 @@ fn journaled(ran: Ran) -> Journaled
     }
 }
 
-/// Tells how the threads of a run ended, writes its journal, and tells where they stand, as the words ask for it.
+/// Tells how the threads of a run ended, writes its journal where the words ask for it, and tells where the threads
+/// stand, if there is a world for that.
 fn tell_run_and_stacks<F: Files, E: Errors>(
     alloc: Global,
-    image: &Image,
+    program: &Program,
+    again: Option<World>,
     words: &Run<'_>,
     ran: &Journaled,
     files: &mut F,
@@ -500,18 +510,8 @@ fn tell_run_and_stacks<F: Files, E: Errors>(
     ensures done { IsOver result → (result ≡ ran.now.status)
         × IsWritten (F.holds files.old) (F.holds files.new) words.now.journal (schedule_of ran.now.journal) }
 {
-    let status = tell_run(alloc, image.program(), words, ran, files, errors);
-    if !words.stacks {
-        return status;
-    }
-    tell_image_stacks(
-        alloc,
-        image,
-        words.entries,
-        ran.journal.runs(),
-        status,
-        errors,
-    )
+    let status = tell_run(alloc, program, words, ran, files, errors);
+    tell_image_stacks(alloc, program, again, ran.journal.runs(), status, errors)
 }
 
 /// Tells how the threads of a run ended, and writes its journal where the words ask for it.
@@ -568,8 +568,8 @@ fn replay_image<F: Files, W: Write, E: Errors>(
 {
     match replayed(alloc, words, files) {
         Ok((seen, status)) => {
-            let status = tell_replay(alloc, words, &seen, status, out, errors);
-            (status, Held::Image(seen.image))
+            let (status, program) = tell_replay(alloc, seen, status, out, errors);
+            (status, Held::Program(program))
         }
         Err(refusal) => (refuse(&refusal, errors), Held::Nothing),
     }

@@ -6,9 +6,7 @@ ghost use Rattle.cli.specs.Status.{IsOver};
 use crate::meanings::Errors;
 use crate::telling::refuse;
 use crate::{Refusal, Status, entries_of};
-use image_reader::world;
 use init_engine::World;
-use object_graph::Image;
 use program::Program;
 use stacks::{stack_lines, stacks};
 use std::alloc::Global;
@@ -39,11 +37,11 @@ pub(crate) fn tell_lazy_stacks<E: Errors>(
     }
 }
 
-/// Tells where the threads of a run of an image stand, by its schedule, from the entries of a list.
+/// Tells where the threads of a run of an image stand, by its schedule, if there is the world of its start once more.
 pub(crate) fn tell_image_stacks<E: Errors>(
     alloc: Global,
-    image: &Image,
-    list: &str,
+    program: &Program,
+    again: Option<World>,
     runs: &[(u32, u64)],
     status: Status,
     errors: &mut E,
@@ -53,8 +51,10 @@ pub(crate) fn tell_image_stacks<E: Errors>(
     ensures words { result ≢ Status.Words }
     ensures done { IsOver result → result ≡ status }
 {
-    if some_stand(status) {
-        tell_stacks(image_stacks(alloc, image, list, runs), status, errors)
+    if some_stand(status)
+        && let Some(first) = again
+    {
+        tell_stacks(stacks_from(alloc, program, first, runs), status, errors)
     } else {
         status
     }
@@ -87,22 +87,6 @@ fn lazy_stacks(
     let entries = entries_of(alloc, list)?;
     match World::lazy(alloc, program, entries.as_slice()) {
         Ok(first) => stacks_from(alloc, program, first, runs),
-        Err(fault) => Err(Refusal::of_entry(fault)),
-    }
-}
-
-/// The stacks after a schedule from the start of an image, from the entries of a list.
-fn image_stacks(
-    alloc: Global,
-    image: &Image,
-    list: &str,
-    runs: &[(u32, u64)],
-) -> Result<String, Refusal>
-    requires { AreRuns runs.now }
-{
-    let entries = entries_of(alloc, list)?;
-    match world(alloc, image, entries.as_slice()) {
-        Ok(first) => stacks_from(alloc, image.program(), first, runs),
         Err(fault) => Err(Refusal::of_entry(fault)),
     }
 }

@@ -12,56 +12,55 @@ use crate::meanings::Errors;
 use crate::outputs::Clash;
 use crate::running::send_seen;
 use crate::standing::tell_image_stacks;
-use crate::{CutShort, Refusal, Replay, Request, Stage, Status, Watch, WordsFault, thread_lines};
+use crate::{CutShort, Refusal, Request, Stage, Status, Watch, WordsFault, thread_lines};
 use init_engine::Ending;
 use program::Program;
 use std::alloc::Global;
 use std::io::Write;
 
-/// Tells what a replay has shown.
+/// Tells what a replay has shown. Answers its program back.
 pub(crate) fn tell_replay<W: Write, E: Errors>(
     alloc: Global,
-    words: &Replay<'_>,
-    replayed: &ImageSeen,
+    replayed: ImageSeen,
     status: Status,
     out: &mut W,
     errors: &mut E,
-) -> Status
+) -> (Status, Program)
     requires { status ≢ Status.Words }
     // Nothing has gone out, or all that was printed.
-    ensures refused { result ≡ Status.Refused → (W.contents out.new ≡ W.contents out.old)
-        ⊎ Appends (W.contents out.old) (W.contents out.new) (text_of replayed.now.seen.printed) }
-    ensures words { result ≢ Status.Words }
-    ensures done { IsOver result → (result ≡ status)
-        × Appends (W.contents out.old) (W.contents out.new) (text_of replayed.now.seen.printed) }
+    ensures refused { result.0 ≡ Status.Refused → (W.contents out.new ≡ W.contents out.old)
+        ⊎ Appends (W.contents out.old) (W.contents out.new) (text_of replayed.seen.printed) }
+    ensures words { result.0 ≢ Status.Words }
+    ensures done { IsOver result.0 → (result.0 ≡ status)
+        × Appends (W.contents out.old) (W.contents out.new) (text_of replayed.seen.printed) }
 {
     match send_seen(&replayed.seen, out) {
-        Ok(()) => tell_replay_threads(alloc, words, replayed, status, errors),
-        Err(CutShort::Memory) => refuse(&Refusal::Memory, errors),
-        Err(CutShort::Device) => refuse(&Refusal::Device, errors),
+        Ok(()) => tell_replay_threads(alloc, replayed, status, errors),
+        Err(CutShort::Memory) => (refuse(&Refusal::Memory, errors), replayed.program),
+        Err(CutShort::Device) => (refuse(&Refusal::Device, errors), replayed.program),
     }
 }
 
-/// Tells how the threads of a replay ended, and where they stand, if the words ask for it.
+/// Tells how the threads of a replay ended, and where they stand, if there is a world for that.
 fn tell_replay_threads<E: Errors>(
     alloc: Global,
-    words: &Replay<'_>,
-    replayed: &ImageSeen,
+    replayed: ImageSeen,
     status: Status,
     errors: &mut E,
-) -> Status
+) -> (Status, Program)
     requires { status ≢ Status.Words }
-    ensures words { result ≢ Status.Words }
-    ensures done { IsOver result → result ≡ status }
+    ensures words { result.0 ≢ Status.Words }
+    ensures done { IsOver result.0 → result.0 ≡ status }
 {
-    let program = replayed.image.program();
-    let threads = replayed.seen.threads.as_slice();
-    let status = tell_endings(alloc, program, threads, status, errors);
-    if !words.stacks {
-        return status;
-    }
-    let runs = replayed.journal.runs();
-    tell_image_stacks(alloc, &replayed.image, words.entries, runs, status, errors)
+    let ImageSeen {
+        program,
+        again,
+        journal,
+        seen,
+    } = replayed;
+    let status = tell_endings(alloc, &program, seen.threads.as_slice(), status, errors);
+    let status = tell_image_stacks(alloc, &program, again, journal.runs(), status, errors);
+    (status, program)
 }
 
 /// Tells how threads ended.

@@ -5,7 +5,7 @@ use Rattle.vm_state.specs.declared.value.Value.{Value}
 use Rattle.vm_state.specs.declared.value.Name.{Name}
 use Rattle.vm_state.specs.declared.value.Maker.TheVariants.{Class}
 use Rattle.vm_state.specs.declared.classes.StaticField.{StaticField}
-use Rattle.vm_state.specs.Objects.{ObjectRow, empty_row}
+use Rattle.vm_state.specs.Objects.{HeldObjects, none_held}
 use Rattle.vm_state.specs.Pools.{pool_by}
 use Rattle.vm_state.specs.SharedState.{Pool, Region as RegionOf, same_maker, with_slot}
 use Rattle.vm_state.specs.Statics.{field_in, with_value, with_constants, zeros_of}
@@ -45,15 +45,15 @@ zero_at [] f = refl
 zero_at (s ∷ ss) zero = refl
 zero_at (s ∷ ss) (suc f) = zero_at ss f
 
-no_objects : pool_by empty_row ≡ empty_pool
+no_objects : pool_by none_held ≡ empty_pool
 no_objects = ap (λ (at : ℕ → Option _). record { count = 0; at = at }) (fun_ext (λ k. refl))
 
 region_with : (ℕ → Value) → Pool → RegionOf
 region_with fields pool = record { fields = fields; pool = pool }
 
-pub begins : (P : Program) (c : ℕ) (zeros fields : List Value) (objects : ObjectRow) →
+pub begins : (P : Program) (c : ℕ) (zeros fields : List Value) (objects : HeldObjects) →
     zeros ≡ map (λ (s : StaticField). s.zero) (P.statics c) →
-    field_in fields ≡ with_constants (P.statics c) (field_in zeros) → objects ≡ empty_row →
+    field_in fields ≡ with_constants (P.statics c) (field_in zeros) → objects ≡ none_held →
     region_of (record { fields = fields; objects = objects }) ≡ constant_region P c
 unfolding region_with
 begins P c zeros fields objects is set none =

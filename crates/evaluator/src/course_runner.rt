@@ -18,7 +18,7 @@ use std::alloc::{AllocError, Global};
 use std::mem;
 use vm_state::classes::{Classes, Fields};
 use vm_state::frame::Segment;
-use vm_state::heap::{Heap, Row};
+use vm_state::heap::{Heap, Pool};
 use vm_state::shared::Shared;
 use vm_state::value::Maker;
 
@@ -37,7 +37,7 @@ pub(crate) struct CourseRunner {
 fn no_region(alloc: Global) -> Region {
     Region {
         fields: Fields::new(alloc),
-        objects: Row::new(alloc),
+        objects: Pool::new(alloc),
     }
 }
 

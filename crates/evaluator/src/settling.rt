@@ -21,7 +21,7 @@ use region_shape::{show_from_file, show_linked};
 use std::alloc::{AllocError, Global};
 use vm_state::classes::Fields;
 use vm_state::frame::{FrameList, Segment};
-use vm_state::heap::Row;
+use vm_state::heap::Pool;
 
 /// A class's region before its initializer runs: each static field is zero, null or its ConstantValue, and no object
 /// was made (JVMS 5.5, step 6).
@@ -33,7 +33,7 @@ fn constant_region(alloc: Global, program: &Program, class: u32) -> Result<Regio
     fields.set_constants(statics);
     Ok(Region {
         fields,
-        objects: Row::new(alloc),
+        objects: Pool::new(alloc),
     })
 }
 

@@ -14,7 +14,7 @@ use Rattle.graph.specs.Rows.{Rows, successors_of}
 use Rattle.graph.specs.Reaches.{Reaches, itself, along}
 use Rattle.explain.specs.declared.bearers.Bearer.{Bearer}
 use Rattle.explain.specs.declared.bearers.Pair.{Pair}
-use Rattle.explain.specs.declared.bearers.Source.{Source}
+use Rattle.explain.specs.declared.bearers.VertexBearer.{VertexBearer}
 use Rattle.explain.specs.steps.Nearest.{AreNearest, Has, HaveVertices, IsReachedBearer}
 use Rattle.explain.specs.steps.Bearers.{IsOf, IsPair, Offers, Serves, Takes, room}
 use Rattle.explain.specs.steps.Found.{AddsAll, AreFound, IsBefore, IsIn, no_pair}
@@ -24,7 +24,7 @@ use Rattle.hierarchy.proofs.RowLemmas.{set_here, set_else}
 
 -- ---- one vertex is given a bearer
 
-abbrev pub IsThis : ℕ → Bearer → Source → Type 0
+abbrev pub IsThis : ℕ → Bearer → VertexBearer → Type 0
 IsThis v g s = (s.vertex ≡ v) × (s.bearer ≡ g)
 
 set_other : {A : Type 0} (xs : List A) (i j : ℕ) (b : A) → j ≢ i → slice_get (set xs i b) j ≡ slice_get xs j
@@ -36,7 +36,7 @@ set_len xs i b = grind (arith, common_steps)
 same_some : {A : Type 0} (x y : A) → Some x ≡ Some y → x ≡ y
 same_some x y e = cc
 
-module _ (pairs : List Pair) (found : List Source) (v : ℕ) (g : Bearer) (here : Pair)
+module _ (pairs : List Pair) (found : List VertexBearer) (v : ℕ) (g : Bearer) (here : Pair)
     (at : slice_get pairs v ≡ Some here) where
   has_of : (h : Bearer) → IsOf here h → Has pairs v h
   has_of h of = (here, at, of)
@@ -58,8 +58,8 @@ module _ (pairs : List Pair) (found : List Source) (v : ℕ) (g : Bearer) (here 
     new : List Pair
     new = set pairs v pair
 
-    more : List Source
-    more = found ++ (let s : Source = record { vertex = v; bearer = g } in s) ∷ []
+    more : List VertexBearer
+    more = found ++ (let s : VertexBearer = record { vertex = v; bearer = g } in s) ∷ []
 
     has_new : (h : Bearer) → IsOf pair h → Has (set pairs v pair) v h
     has_new h of = (pair, set_here pairs v pair low, of)
@@ -86,7 +86,7 @@ module _ (pairs : List Pair) (found : List Source) (v : ℕ) (g : Bearer) (here 
     ]
 
     pub adds_one : AddsAll (IsThis v g) pairs found (set pairs v pair)
-        (found ++ (let s : Source = record { vertex = v; bearer = g } in s) ∷ [])
+        (found ++ (let s : VertexBearer = record { vertex = v; bearer = g } in s) ∷ [])
     adds_one = record {
       len = set_len pairs v pair;
       keeps = keeps;
@@ -96,7 +96,7 @@ module _ (pairs : List Pair) (found : List Source) (v : ℕ) (g : Bearer) (here 
     }
 
     pub found_one : AreFound pairs found → AreFound (set pairs v pair)
-        (found ++ (let s : Source = record { vertex = v; bearer = g } in s) ∷ [])
+        (found ++ (let s : VertexBearer = record { vertex = v; bearer = g } in s) ∷ [])
     found_one are = record {
       each = λ w q there. elim (same_or w v) [
         | inl same ↦ subst IsPair (same_some pair q (sym (set_here pairs v pair low)
@@ -105,10 +105,10 @@ module _ (pairs : List Pair) (found : List Source) (v : ℕ) (g : Bearer) (here 
       ];
       held = λ s among. elim (Contains-push_cases found (record { vertex = v; bearer = g }) s among) [
         | inl was ↦ keeps s.vertex s.bearer (are.held s was)
-        | inr last ↦ subst (λ (x : Source). Has (set pairs v pair) x.vertex x.bearer) last (has_new g takes.has)
+        | inr last ↦ subst (λ (x : VertexBearer). Has (set pairs v pair) x.vertex x.bearer) last (has_new g takes.has)
       ];
       noted = λ w h has. elim (only w h has) [
-        | inl old ↦ Contains-append_left found ((let s : Source = record { vertex = v; bearer = g } in s) ∷ [])
+        | inl old ↦ Contains-append_left found ((let s : VertexBearer = record { vertex = v; bearer = g } in s) ∷ [])
             (record { vertex = w; bearer = h }) (are.noted w h old)
         | inr (vertex, bearer) ↦ rw (vertex, bearer) (Contains-push found (record { vertex = v; bearer = g }))
       ];
@@ -122,15 +122,15 @@ module _ (pairs : List Pair) (found : List Source) (v : ℕ) (g : Bearer) (here 
             takes.less,
             are.rest,
             set_len pairs v pair,
-            length_push found (let s : Source = record { vertex = v; bearer = g } in s),
+            length_push found (let s : VertexBearer = record { vertex = v; bearer = g } in s),
           ));
     }
 
 -- ---- several are
 
-pub adds_more : (Given Also All : Source → Type 0) (a b c : List Pair) (fa fb fc : List Source)
-    → AddsAll Given a fa b fb → AddsAll Also b fb c fc → ((s : Source) → All s → Given s ⊎ Also s)
-    → ((s : Source) → Given s ⊎ Also s → All s) → AddsAll All a fa c fc
+pub adds_more : (Given Also All : VertexBearer → Type 0) (a b c : List Pair) (fa fb fc : List VertexBearer)
+    → AddsAll Given a fa b fb → AddsAll Also b fb c fc → ((s : VertexBearer) → All s → Given s ⊎ Also s)
+    → ((s : VertexBearer) → Given s ⊎ Also s → All s) → AddsAll All a fa c fc
 adds_more Given Also All a b c fa fb fc first then splits joins = record {
   len = then.len ∙ first.len;
   keeps = λ w h has. then.keeps w h (first.keeps w h has);
@@ -148,8 +148,8 @@ adds_more Given Also All a b c fa fb fc first then splits joins = record {
   ];
 }
 
-pub adds_as : (Given All : Source → Type 0) (a b : List Pair) (fa fb : List Source) → AddsAll Given a fa b fb
-    → ((s : Source) → All s ↔ Given s) → AddsAll All a fa b fb
+pub adds_as : (Given All : VertexBearer → Type 0) (a b : List Pair) (fa fb : List VertexBearer)
+    → AddsAll Given a fa b fb → ((s : VertexBearer) → All s ↔ Given s) → AddsAll All a fa b fb
 adds_as Given All a b fa fb adds same = record {
   len = adds.len;
   keeps = adds.keeps;
@@ -185,7 +185,8 @@ before_all xs i x all = (
   λ (k, low, at). contains_at xs k x at,
 )
 
-pub within_at : (sources : List Source) (limit i : ℕ) (d : Source) → HaveVertices sources limit → i < length sources
+pub within_at : (sources : List VertexBearer) (limit i : ℕ) (d : VertexBearer) → HaveVertices sources limit
+    → i < length sources
     → (get_or sources i d).vertex < limit
 within_at sources limit i d have low =
     have (get_or sources i d) (contains_at sources i (get_or sources i d) (slice_get-get_or sources i d low))
@@ -194,19 +195,20 @@ pub replicated : (pairs : List Pair) (n : ℕ) → pairs ≡ replicate n no_pair
 replicated pairs n is = ap length is ∙ length-replicate n no_pair
 
 -- of sources
-source_is : (s y : Source) → s.vertex ≡ y.vertex → s.bearer ≡ y.bearer → s ≡ y
+source_is : (s y : VertexBearer) → s.vertex ≡ y.vertex → s.bearer ≡ y.bearer → s ≡ y
 source_is s y vertex bearer =
-    ap (λ (v : ℕ). let x : Source = record { vertex = v; bearer = s.bearer } in x) vertex
-    ∙ ap (λ (g : Bearer). let x : Source = record { vertex = y.vertex; bearer = g } in x) bearer
+    ap (λ (v : ℕ). let x : VertexBearer = record { vertex = v; bearer = s.bearer } in x) vertex
+    ∙ ap (λ (g : Bearer). let x : VertexBearer = record { vertex = y.vertex; bearer = g } in x) bearer
 
-pub adds_source : (sources : List Source) (i : ℕ) (y : Source) (a b c : List Pair) (fa fb fc : List Source)
+pub adds_source : (sources : List VertexBearer) (i : ℕ) (y : VertexBearer) (a b c : List Pair)
+    (fa fb fc : List VertexBearer)
     → slice_get sources i ≡ Some y → AddsAll (IsBefore sources i) a fa b fb
     → AddsAll (IsThis y.vertex y.bearer) b fb c fc → AddsAll (IsBefore sources (i + 1)) a fa c fc
 adds_source sources i y a b c fa fb fc here before one =
     adds_more (IsBefore sources i) (IsThis y.vertex y.bearer) (IsBefore sources (i + 1)) a b c fa fb fc before one
     (λ s all. elim (before_splits sources i y s here all) [
       | inl was ↦ inl was
-      | inr same ↦ inr (ap (λ (x : Source). x.vertex) same, ap (λ (x : Source). x.bearer) same)
+      | inr same ↦ inr (ap (λ (x : VertexBearer). x.vertex) same, ap (λ (x : VertexBearer). x.bearer) same)
     ])
     (λ s either. before_joins sources i y s here (elim either [
       | inl was ↦ inl was
@@ -214,10 +216,10 @@ adds_source sources i y a b c fa fb fc here before one =
     ]))
 
 -- of vertices of a row
-abbrev pub IsInBefore : List ℕ → ℕ → Bearer → Source → Type 0
+abbrev pub IsInBefore : List ℕ → ℕ → Bearer → VertexBearer → Type 0
 IsInBefore row i g s = IsBefore row i s.vertex × (s.bearer ≡ g)
 
-pub adds_vertex : (row : List ℕ) (i v : ℕ) (g : Bearer) (a b c : List Pair) (fa fb fc : List Source)
+pub adds_vertex : (row : List ℕ) (i v : ℕ) (g : Bearer) (a b c : List Pair) (fa fb fc : List VertexBearer)
     → slice_get row i ≡ Some v → AddsAll (IsInBefore row i g) a fa b fb
     → AddsAll (IsThis v g) b fb c fc → AddsAll (IsInBefore row (i + 1) g) a fa c fc
 adds_vertex row i v g a b c fa fb fc here before one =
@@ -231,7 +233,8 @@ adds_vertex row i v g a b c fa fb fc here before one =
       | inr (same, bearer) ↦ (before_joins row i v s.vertex here (inr same), bearer)
     ])
 
-pub in_row : (row : List ℕ) (i : ℕ) (g : Bearer) (s : Source) → length row ≤ i → IsIn row g s ↔ IsInBefore row i g s
+pub in_row : (row : List ℕ) (i : ℕ) (g : Bearer) (s : VertexBearer) → length row ≤ i
+    → IsIn row g s ↔ IsInBefore row i g s
 in_row row i g s all = (
   λ (among, bearer). ((before_all row i s.vertex all).0 among, bearer),
   λ (before, bearer). ((before_all row i s.vertex all).1 before, bearer),
@@ -239,13 +242,13 @@ in_row row i g s all = (
 
 -- ---- the search
 
-pub record IsSpread (back : Rows) (sources : List Source) (pairs : List Pair) (found : List Source) (next : ℕ)
-    : Type 0 where
+pub record IsSpread (back : Rows) (sources : List VertexBearer) (pairs : List Pair) (found : List VertexBearer)
+    (next : ℕ) : Type 0 where
   pub len : length pairs ≡ length back
   pub are : AreFound pairs found
   pub sound : (v : ℕ) (g : Bearer) → Has pairs v g → IsReachedBearer back sources v g
-  pub starts : (s : Source) → Contains sources s → Serves (Has pairs s.vertex) s.bearer
-  pub closed : (k : ℕ) (s : Source) → k < next → slice_get found k ≡ Some s → (v : ℕ)
+  pub starts : (s : VertexBearer) → Contains sources s → Serves (Has pairs s.vertex) s.bearer
+  pub closed : (k : ℕ) (s : VertexBearer) → k < next → slice_get found k ≡ Some s → (v : ℕ)
       → Contains (successors_of back s.vertex) v → Serves (Has pairs v) s.bearer
   pub up_to : next ≤ length found
 
@@ -263,7 +266,7 @@ none_has pairs n v g is (pair, at, of) =
     none_of g (inl e) = absurd cc
     none_of g (inr e) = absurd cc
 
-pub found_none : (pairs : List Pair) (found : List Source) (n : ℕ) → pairs ≡ replicate n no_pair → found ≡ []
+pub found_none : (pairs : List Pair) (found : List VertexBearer) (n : ℕ) → pairs ≡ replicate n no_pair → found ≡ []
     → length pairs ≡ n → AreFound pairs found
 found_none pairs found n is none len = record {
   each = λ v pair at.
@@ -276,7 +279,7 @@ found_none pairs found n is none len = record {
       omega (arith, no, sum, sum_by-replicate room n no_pair, len));
 }
 
-pub spread_first : (back : Rows) (sources : List Source) (old pairs : List Pair) (none found : List Source)
+pub spread_first : (back : Rows) (sources : List VertexBearer) (old pairs : List Pair) (none found : List VertexBearer)
     → length old ≡ length back → old ≡ replicate (length back) no_pair
     → AddsAll (Contains sources) old none pairs found → AreFound pairs found → IsSpread back sources pairs found 0
 spread_first back sources old pairs none found len is adds are = record {
@@ -291,8 +294,8 @@ spread_first back sources old pairs none found len is adds are = record {
   up_to = omega arith;
 }
 
-pub spread_next : (back : Rows) (sources : List Source) (pairs new : List Pair) (found more : List Source)
-    (next : ℕ) (s : Source) → slice_get found next ≡ Some s → IsSpread back sources pairs found next
+pub spread_next : (back : Rows) (sources : List VertexBearer) (pairs new : List Pair) (found more : List VertexBearer)
+    (next : ℕ) (s : VertexBearer) → slice_get found next ≡ Some s → IsSpread back sources pairs found next
     → AddsAll (IsIn (successors_of back s.vertex) s.bearer) pairs found new more → AreFound new more
     → IsSpread back sources new more (next + 1)
 spread_next back sources pairs new found more next s at spread adds are = record {
@@ -318,13 +321,13 @@ spread_next back sources pairs new found more next s at spread adds are = record
     | inr last ↦
         (let same : s ≡ x = same_some s x
         (sym (adds.stays next s at) ∙ ap (λ (n : ℕ). slice_get more n) (sym last) ∙ there) in
-        subst (λ (y : Source). Contains (successors_of back y.vertex) v → Serves (Has new v) y.bearer) same
+        subst (λ (y : VertexBearer). Contains (successors_of back y.vertex) v → Serves (Has new v) y.bearer) same
         (λ leads. adds.serves (record { vertex = v; bearer = s.bearer }) (leads, refl)) edge)
   ];
   up_to = (let low = slice_get_within more next s (adds.stays next s at) in omega (arith, low));
 }
 
-pub spread_done : (back : Rows) (sources : List Source) (pairs : List Pair) (found : List Source) (next : ℕ)
+pub spread_done : (back : Rows) (sources : List VertexBearer) (pairs : List Pair) (found : List VertexBearer) (next : ℕ)
     → length found ≤ next → IsSpread back sources pairs found next → AreNearest back sources pairs
 spread_done back sources pairs found next done spread = record {
   len = spread.len;
@@ -338,5 +341,5 @@ spread_done back sources pairs found next done spread = record {
     serves g u among v (along {a = a} path edge) = λ class other.
         let (h, has, differs) = serves g u among a path class other in
         let (k, at) = place_in found (record { vertex = a; bearer = h }) (spread.are.noted a h has) in
-        let low = slice_get_within found k (let s : Source = record { vertex = a; bearer = h } in s) at in
+        let low = slice_get_within found k (let s : VertexBearer = record { vertex = a; bearer = h } in s) at in
         spread.closed k (record { vertex = a; bearer = h }) (omega (arith, low, done)) at v edge class differs

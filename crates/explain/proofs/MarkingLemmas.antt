@@ -23,7 +23,7 @@ use Rattle.use_graph.proofs.ReachedLemmas.{runs_reached, reached_runs}
 use Rattle.initializer_analysis.proofs.MarkingLemmas.{body_of, none_runs}
 use Rattle.explain.specs.declared.bearers.Bearer.{Bearer}
 use Rattle.explain.specs.declared.bearers.Pair.{Pair}
-use Rattle.explain.specs.declared.bearers.Source.{Source}
+use Rattle.explain.specs.declared.bearers.VertexBearer.{VertexBearer}
 use Rattle.explain.specs.steps.Bearers.{IsOf}
 use Rattle.explain.specs.steps.Nearest.{AreNearest, HaveVertices}
 use Rattle.explain.specs.steps.Marking.{AreSources, AreSourcesBelow, AreTold, IsMarking, IsSourceAt, IsSourceOf}
@@ -38,7 +38,7 @@ same_at xs i x y p q = same_some x y (sym p ∙ q)
 -- ---- sources
 
 -- the method of a vertex has no others
-pub source_at : (uses : UseGraph) (mark : Mark) (v : ℕ) (m : DeclaredMember) (b : BodyUses) (s : Source)
+pub source_at : (uses : UseGraph) (mark : Mark) (v : ℕ) (m : DeclaredMember) (b : BodyUses) (s : VertexBearer)
     → slice_get uses.methods v ≡ Some m → slice_get uses.bodies.items v ≡ Some b
     → IsSourceAt uses mark v s ↔ HoldsOfOne (IsSourceOf mark v m) b.told.items s
 source_at uses mark v m b s at here = (
@@ -62,8 +62,8 @@ either_as old new x More Other adds same = (
 pub below_or : (k i : ℕ) → k < i + 1 → (k < i) ⊎ (k ≡ i)
 below_or k i low = grind arith
 
-pub below_more : (uses : UseGraph) (mark : Mark) (v : ℕ) (old new : List Source) → AreSourcesBelow uses mark v old
-    → ((s : Source) → Contains new s ↔ (Contains old s ⊎ IsSourceAt uses mark v s))
+pub below_more : (uses : UseGraph) (mark : Mark) (v : ℕ) (old new : List VertexBearer) → AreSourcesBelow uses mark v old
+    → ((s : VertexBearer) → Contains new s ↔ (Contains old s ⊎ IsSourceAt uses mark v s))
     → AreSourcesBelow uses mark (v + 1) new
 below_more uses mark v old new before adds s = (
   λ p. elim ((adds s).0 p) [
@@ -76,7 +76,7 @@ below_more uses mark v old new before adds s = (
   ]),
 )
 
-pub below_all : (uses : UseGraph) (mark : Mark) (limit : ℕ) (sources : List Source) → length uses.methods ≤ limit
+pub below_all : (uses : UseGraph) (mark : Mark) (limit : ℕ) (sources : List VertexBearer) → length uses.methods ≤ limit
     → AreSourcesBelow uses mark limit sources → AreSources uses mark sources
 below_all uses mark limit sources all below s = (
   λ p. ((below s).0 p).1,
@@ -89,7 +89,7 @@ below_all uses mark limit sources all below s = (
 
 -- ---- the table of a mark
 
-pub have_vertices : (uses : UseGraph) (mark : Mark) (back : Rows) (sources : List Source)
+pub have_vertices : (uses : UseGraph) (mark : Mark) (back : Rows) (sources : List VertexBearer)
     → length uses.methods ≤ length uses.calls → IsReverse uses.calls back → AreSources uses mark sources
     → HaveVertices sources (length back)
 have_vertices uses mark back sources small turned are s among =
@@ -97,7 +97,7 @@ have_vertices uses mark back sources small turned are s among =
     let low = slice_get_within uses.methods s.vertex m at in
     omega (arith, low, small, turned.len)
 
-pub is_marking : (uses : UseGraph) (mark : Mark) (back : Rows) (sources : List Source) (pairs : List Pair)
+pub is_marking : (uses : UseGraph) (mark : Mark) (back : Rows) (sources : List VertexBearer) (pairs : List Pair)
     → IsReverse uses.calls back → AreSources uses mark sources → AreNearest back sources pairs
     → IsMarking uses mark pairs
 is_marking uses mark back sources pairs turned are near = record {

@@ -15,7 +15,7 @@ pub(crate) struct Bearer {
 
 /// A bearer of a vertex: its own, or one that it reaches.
 #[derive(Clone, Copy)]
-pub(crate) struct Source {
+pub(crate) struct VertexBearer {
     pub(crate) vertex: usize,
     pub(crate) bearer: Bearer,
 }

@@ -7,10 +7,10 @@ ghost use Rattle.use_graph.specs.declared.mark.Mark.{Mark as Kind};
 ghost use Rattle.use_graph.specs.Uses.{Tells};
 ghost use Rattle.use_graph.specs.steps.Bodies.{IsUseGraph};
 ghost use Rattle.use_graph.specs.steps.Deeds.{HoldsOfOne};
-ghost use Rattle.explain.specs.declared.bearers.Source.{Source as Held};
+ghost use Rattle.explain.specs.declared.bearers.VertexBearer.{VertexBearer as Held};
 ghost use Rattle.explain.specs.steps.Marking.{AreEvidences, AreSources, AreTold, IsMarking, IsSourceAt, IsSourceOf};
 
-use crate::bearers::{Bearer, Pair, Source};
+use crate::bearers::{Bearer, Pair, VertexBearer};
 use crate::nearest::nearest;
 use graph::{Graph, reversed};
 use hierarchy::member::DeclaredMember;
@@ -38,7 +38,7 @@ fn add_bearer(
     vertex: usize,
     method: DeclaredMember,
     mark: Mark,
-    sources: &mut Vec<Source>,
+    sources: &mut Vec<VertexBearer>,
 ) -> Result<(), AllocError>
     ensures { OnOk result ((s : Held) → Contains sources.new.items s
         ↔ (Contains sources.old.items s ⊎ IsSourceOf mark vertex method item s)) }
@@ -50,7 +50,7 @@ fn add_bearer(
             pc: item.pc,
         };
         let field_class = item.feature.field_class();
-        sources.push(Source {
+        sources.push(VertexBearer {
             vertex,
             bearer: Bearer { at, field_class },
         })?;
@@ -64,7 +64,7 @@ fn add_bearers(
     vertex: usize,
     method: DeclaredMember,
     mark: Mark,
-    sources: &mut Vec<Source>,
+    sources: &mut Vec<VertexBearer>,
 ) -> Result<(), AllocError>
     ensures { OnOk result ((s : Held) → Contains sources.new.items s
         ↔ (Contains sources.old.items s ⊎ HoldsOfOne (IsSourceOf mark vertex method) told.now s)) }
@@ -80,7 +80,7 @@ fn add_vertex(
     uses: &UseGraph,
     vertex: usize,
     mark: Mark,
-    sources: &mut Vec<Source>,
+    sources: &mut Vec<VertexBearer>,
 ) -> Result<(), AllocError>
     ensures { OnOk result ((s : Held) → Contains sources.new.items s
         ↔ (Contains sources.old.items s ⊎ IsSourceAt uses.now mark vertex s)) }
@@ -96,7 +96,7 @@ fn add_vertex(
 }
 
 /// Which vertices of the calls bear a mark for some class, and where.
-fn sources_of(alloc: Global, uses: &UseGraph, mark: Mark) -> Result<Vec<Source>, AllocError>
+fn sources_of(alloc: Global, uses: &UseGraph, mark: Mark) -> Result<Vec<VertexBearer>, AllocError>
     ensures { IfOk result (λ sources. AreSources uses.now mark sources.items) }
 {
     let mut sources = Vec::new(alloc);
@@ -138,7 +138,7 @@ fn evidence_of(program: &Program, uses: &UseGraph, pairs: &[Pair], class: u32) -
 }
 
 /// Where a mark of each class is borne, by the table of that mark.
-fn row_of(
+fn evidences_in(
     alloc: Global,
     program: &Program,
     uses: &UseGraph,
@@ -147,17 +147,17 @@ fn row_of(
     requires uses { IsUseGraph program.now uses.now }
     requires len { length pairs.now ≡ length uses.now.calls }
     ensures { IfOk result
-        (λ row. (mark : Kind) → IsMarking uses.now mark pairs.now → AreTold program.now mark row.items) }
+        (λ evidences. (mark : Kind) → IsMarking uses.now mark pairs.now → AreTold program.now mark evidences.items) }
 {
-    let mut row = Vec::new(alloc);
+    let mut evidences = Vec::new(alloc);
     for class in 0..program.given_count() {
-        row.push(evidence_of(program, uses, pairs, class))?;
+        evidences.push(evidence_of(program, uses, pairs, class))?;
     }
-    Ok(row)
+    Ok(evidences)
 }
 
 /// Where a mark of each class is borne.
-fn row(
+fn evidences_of_mark(
     alloc: Global,
     program: &Program,
     uses: &UseGraph,
@@ -166,11 +166,11 @@ fn row(
 ) -> Result<Vec<Option<Evidence>>, AllocError>
     requires uses { IsUseGraph program.now uses.now }
     requires back { IsReverse uses.now.calls back.now }
-    ensures { IfOk result (λ row. AreTold program.now mark row.items) }
+    ensures { IfOk result (λ evidences. AreTold program.now mark evidences.items) }
 {
     let pairs = marking(alloc, uses, back, mark)?;
-    let row = row_of(alloc, program, uses, &pairs)?;
-    Ok(row)
+    let evidences = evidences_in(alloc, program, uses, &pairs)?;
+    Ok(evidences)
 }
 
 /// Where each mark of each class is borne. It takes time near linear in the program.
@@ -187,12 +187,12 @@ pub(crate) fn evidences_of(
 {
     let back = reversed(alloc, &uses.calls)?;
     Ok(Evidences {
-        prints: row(alloc, program, uses, &back, Mark::Prints)?,
-        throws: row(alloc, program, uses, &back, Mark::Throws)?,
-        monitors: row(alloc, program, uses, &back, Mark::Monitors)?,
-        foreign_write: row(alloc, program, uses, &back, Mark::ForeignWrite)?,
-        foreign_read: row(alloc, program, uses, &back, Mark::ForeignRead)?,
-        unsupported: row(alloc, program, uses, &back, Mark::Unsupported)?,
-        missing: row(alloc, program, uses, &back, Mark::Missing)?,
+        prints: evidences_of_mark(alloc, program, uses, &back, Mark::Prints)?,
+        throws: evidences_of_mark(alloc, program, uses, &back, Mark::Throws)?,
+        monitors: evidences_of_mark(alloc, program, uses, &back, Mark::Monitors)?,
+        foreign_write: evidences_of_mark(alloc, program, uses, &back, Mark::ForeignWrite)?,
+        foreign_read: evidences_of_mark(alloc, program, uses, &back, Mark::ForeignRead)?,
+        unsupported: evidences_of_mark(alloc, program, uses, &back, Mark::Unsupported)?,
+        missing: evidences_of_mark(alloc, program, uses, &back, Mark::Missing)?,
     })
 }

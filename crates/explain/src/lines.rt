@@ -1,8 +1,6 @@
 //! Explanations as lines of text, each of which begins with the name of the class.
 
 ghost use Rattle.std.specs.Prelude.{◌≡◌, ◌≤◌, length, IfOk, string_bytes};
-ghost use Rattle.initializer_analysis.specs.declared.verdict.Verdict.TheVariants.{Wave, Refused};
-ghost use Rattle.report.specs.Texts.{verdict_text};
 ghost use Rattle.explain.specs.Texts.{blamed_line, verdict_line, AreAtMost, AreEachBelow};
 ghost use Rattle.explain.specs.Texts.{IsAllText, IsBlamedLine, IsClassText, IsTextAmongAll};
 ghost use Rattle.explain.specs.steps.Known.{IsKnown};
@@ -15,47 +13,11 @@ use crate::reason_lines::reason_lines;
 use crate::run_lines::run_text;
 use crate::words::{line, name_text};
 use initializer_analysis::forced::Forced;
-use initializer_analysis::verdict::{Reason, Verdict};
+use initializer_analysis::verdict::Verdict;
 use loading::family::Family;
 use object_graph::Image;
-use report::reason_text;
+use report::verdict_text;
 use std::alloc::{AllocError, Global};
-
-/// The words of a report on a class that is initialized at build time.
-fn built_words(alloc: Global, image: &Image, class: u32, wave: usize) -> Result<String, AllocError>
-    ensures { IfOk result (λ text. string_bytes text ≡ verdict_text image.now class (Wave wave)) }
-{
-    let kept = image.object_count(class);
-    format!(in alloc; "build {wave} {kept}")
-}
-
-/// The words of a report on a class that is initialized at run time.
-fn refused_words(
-    alloc: Global,
-    image: &Image,
-    class: u32,
-    reason: Reason,
-) -> Result<String, AllocError>
-    ensures { IfOk result (λ text. string_bytes text ≡ verdict_text image.now class (Refused reason)) }
-{
-    let reason = reason_text(alloc, image.program().family(), reason)?;
-    format!(in alloc; "run {reason}")
-}
-
-/// The words of a report on a class.
-fn verdict_words(
-    alloc: Global,
-    image: &Image,
-    class: u32,
-    verdict: Verdict,
-) -> Result<String, AllocError>
-    ensures { IfOk result (λ text. string_bytes text ≡ verdict_text image.now class verdict) }
-{
-    match verdict {
-        Verdict::Wave(wave) => built_words(alloc, image, class, wave),
-        Verdict::Refused(reason) => refused_words(alloc, image, class, reason),
-    }
-}
 
 /// The line that a report has of a class.
 fn verdict_line(
@@ -69,7 +31,7 @@ fn verdict_line(
     let Some(verdict) = verdict else {
         return Ok(String::new(alloc));
     };
-    let words = verdict_words(alloc, image, class, verdict)?;
+    let words = verdict_text(alloc, image, class, verdict)?;
     line(alloc, image.program().family(), class, words.as_str())
 }
 

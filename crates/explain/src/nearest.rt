@@ -5,7 +5,7 @@ ghost use Rattle.std.specs.List.{All, Contains};
 ghost use Rattle.explain.specs.steps.Nearest.{AreNearest, HaveVertices};
 ghost use Rattle.explain.specs.steps.Found.{AddsAll, AreFound, IsIn, no_pair};
 
-use crate::bearers::{Bearer, Pair, Source};
+use crate::bearers::{Bearer, Pair, VertexBearer};
 use graph::Graph;
 use std::alloc::{AllocError, Global};
 
@@ -14,7 +14,7 @@ fn add(
     vertex: usize,
     bearer: Bearer,
     pairs: &mut [Pair],
-    found: &mut Vec<Source>,
+    found: &mut Vec<VertexBearer>,
 ) -> Result<(), AllocError>
     requires vertex { vertex < length pairs.old }
     requires are { AreFound pairs.old found.old.items }
@@ -24,7 +24,7 @@ fn add(
         pairs.new found.new.items) }
 {
     if let Some(pair) = pairs[vertex].with(bearer) {
-        found.push(Source { vertex, bearer })?;
+        found.push(VertexBearer { vertex, bearer })?;
         pairs[vertex] = pair;
     }
     Ok(())
@@ -32,9 +32,9 @@ fn add(
 
 /// Gives vertices their bearers.
 fn add_all(
-    sources: &[Source],
+    sources: &[VertexBearer],
     pairs: &mut [Pair],
-    found: &mut Vec<Source>,
+    found: &mut Vec<VertexBearer>,
 ) -> Result<(), AllocError>
     requires vertices { HaveVertices sources.now (length pairs.old) }
     requires are { AreFound pairs.old found.old.items }
@@ -48,20 +48,21 @@ fn add_all(
     Ok(())
 }
 
-/// Gives the vertices of a row a bearer.
-fn add_row(
-    row: &[usize],
+/// Gives some vertices a bearer.
+fn add_vertices(
+    vertices: &[usize],
     bearer: Bearer,
     pairs: &mut [Pair],
-    found: &mut Vec<Source>,
+    found: &mut Vec<VertexBearer>,
 ) -> Result<(), AllocError>
-    requires row { All (λ v. v < length pairs.old) row.now }
+    requires vertices { All (λ v. v < length pairs.old) vertices.now }
     requires are { AreFound pairs.old found.old.items }
     ensures are { OnOk result (AreFound pairs.new found.new.items) }
     ensures len { length pairs.new ≡ length pairs.old }
-    ensures adds { OnOk result (AddsAll (IsIn row.now bearer) pairs.old found.old.items pairs.new found.new.items) }
+    ensures adds { OnOk result
+        (AddsAll (IsIn vertices.now bearer) pairs.old found.old.items pairs.new found.new.items) }
 {
-    for vertex in row {
+    for vertex in vertices {
         add(*vertex, bearer, pairs, found)?;
     }
     Ok(())
@@ -70,9 +71,9 @@ fn add_row(
 /// Gives each vertex the bearers of those that it leads to, the nearest first, where each source has its own.
 fn spread(
     back: &Graph,
-    sources: &[Source],
+    sources: &[VertexBearer],
     pairs: &mut [Pair],
-    found: &mut Vec<Source>,
+    found: &mut Vec<VertexBearer>,
 ) -> Result<(), AllocError>
     requires vertices { HaveVertices sources.now (length back.now) }
     requires pairs { pairs.old ≡ replicate (length back.now) no_pair }
@@ -82,8 +83,8 @@ fn spread(
     add_all(sources, pairs, found)?;
     let mut next = 0;
     while next < found.len() {
-        let Source { vertex, bearer } = found[next];
-        add_row(back.successors(vertex), bearer, pairs, found)?;
+        let VertexBearer { vertex, bearer } = found[next];
+        add_vertices(back.successors(vertex), bearer, pairs, found)?;
         next += 1;
     }
     Ok(())
@@ -97,7 +98,7 @@ fn spread(
 pub(crate) fn nearest(
     alloc: Global,
     back: &Graph,
-    sources: &[Source],
+    sources: &[VertexBearer],
 ) -> Result<Vec<Pair>, AllocError>
     requires vertices { HaveVertices sources.now (length back.now) }
     ensures { IfOk result (λ pairs. AreNearest back.now sources.now pairs.items) }

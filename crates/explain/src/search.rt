@@ -36,21 +36,21 @@ fn add_found(
     Ok(())
 }
 
-/// Adds the members of a row that are new, as found from a place.
-fn add_row(
-    row: &[usize],
+/// Adds those of some vertices that are new, as found from a place.
+fn add_vertices(
+    vertices: &[usize],
     place: usize,
     seen: &mut Visited,
     finders: &mut Vec<usize>,
 ) -> Result<(), AllocError>
-    requires { All (λ b. b < seen.old.limit) row.now }
+    requires { All (λ b. b < seen.old.limit) vertices.now }
     ensures limit { seen.new.limit ≡ seen.old.limit }
-    ensures adds { OnOk result (Adds seen.old.items row.now seen.new.items) }
+    ensures adds { OnOk result (Adds seen.old.items vertices.now seen.new.items) }
     ensures tree { OnOk result
-        ((graph : Rows) (u : ℕ) → slice_get seen.old.items place ≡ Some u → successors_of graph u ≡ row.now
+        ((graph : Rows) (u : ℕ) → slice_get seen.old.items place ≡ Some u → successors_of graph u ≡ vertices.now
         → IsTree graph seen.old.items finders.old.items → IsTree graph seen.new.items finders.new.items) }
 {
-    for vertex in row {
+    for vertex in vertices {
         add_found(*vertex, place, seen, finders)?;
     }
     Ok(())
@@ -76,7 +76,7 @@ fn search_from(
     let mut next = 0;
     while next < seen.len() {
         let vertex = seen.at(next);
-        add_row(graph.successors(vertex), next, seen, finders)?;
+        add_vertices(graph.successors(vertex), next, seen, finders)?;
         next += 1;
     }
     Ok(())

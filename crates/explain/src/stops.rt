@@ -14,13 +14,13 @@ use std::alloc::{AllocError, Global};
 use use_graph::mark::Evidence;
 use vm_state::frame::{Activity, Frame, FrameList, Segment};
 use vm_state::heap::Heap;
-use vm_state::initialization::{Frames, Initialization, Level, LevelList, Levels, Parents};
+use vm_state::initialization::{Frames, Initialization, Level, LevelList, Levels, ParentsLeft};
 use vm_state::output::Output;
 use vm_state::shared::Shared;
 use vm_state::value::Maker;
 
 /// Puts a copy of the region of a class in place, where an image has one.
-fn place_region(
+fn put_region(
     alloc: Global,
     image: &Image,
     class: u32,
@@ -39,7 +39,7 @@ fn begun(alloc: Global, image: &Image, class: u32) -> Result<Shared, AllocError>
     let program = image.program();
     let mut shared = Shared::new(blank_classes(alloc, program)?, Heap::new(alloc));
     for other in 0..program.given_count() {
-        place_region(alloc, image, other, &mut shared)?;
+        put_region(alloc, image, other, &mut shared)?;
     }
     let statics = program.statics(class);
     shared.keep(alloc, class, statics.len())?;
@@ -49,7 +49,7 @@ fn begun(alloc: Global, image: &Image, class: u32) -> Result<Shared, AllocError>
 
 /// The stack of a thread in which the initializer of a class begins.
 fn stack_on(alloc: Global, class: u32, innermost: Frame) -> Result<Frames, AllocError> {
-    let left = Parents::of(alloc, &[])?;
+    let left = ParentsLeft::of(alloc, &[])?;
     let highest = Level {
         initialization: Initialization {
             class,
@@ -106,7 +106,7 @@ fn elements_wanted(program: &Program, frame: &Frame) -> u64 {
 
 /// How many elements a class made with its objects from a place on.
 fn elements_from(shared: &Shared, class: u32, place: usize) -> u64 {
-    let Some(objects) = shared.row(Maker::Class(class)) else {
+    let Some(objects) = shared.pool(Maker::Class(class)) else {
         return 0;
     };
     let mut elements = 0u64;
@@ -130,7 +130,7 @@ fn pay(
 ) -> Result<Option<u64>, AllocError>
     requires { IsSome frames.old.segment }
 {
-    let count = match shared.row(Maker::Class(class)) {
+    let count = match shared.pool(Maker::Class(class)) {
         Some(objects) => objects.len(),
         None => 0,
     };

@@ -10,7 +10,7 @@ use Rattle.std.proofs.lemmas.List.Elements.{All-nil, All-cons}
 use Rattle.vm_state.specs.declared.object.Object.{Object}
 use Rattle.vm_state.specs.SharedState.{Pool}
 use Rattle.vm_state.specs.Objects.{AscendsFrom, object_in}
-use Rattle.vm_state.specs.Pools.{IsRowOf}
+use Rattle.vm_state.specs.Pools.{IsListOf}
 use Rattle.vm_state.proofs.ListLemmas.{tested}
 use Rattle.vm_state.proofs.ObjectLemmas.{none_below}
 use Rattle.image_format.specs.Regions.{ImageObject, KeptObject}
@@ -86,7 +86,7 @@ told_by S (o ∷ os) at (suc k) low count is h same = elim (cases_lt low o.0) [
       ∙ ap (λ (x : KeptObject). x ∷ map (told_kept S) os) first)
 ]
 
-pub told_row : (S : List (List ℕ)) (row : Row) (pool : Pool) → IsRowOf row pool
+pub told_row : (S : List (List ℕ)) (row : Row) (pool : Pool) → IsListOf row pool
     → told_objects S pool ≡ map (told_kept S) row
 told_row S row pool is =
     told_by S row pool.at pool.count 0 pool.count (omega arith) is.ascending

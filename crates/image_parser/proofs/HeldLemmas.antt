@@ -16,7 +16,7 @@ use Rattle.vm_state.specs.declared.value.Value.TheVariants as machine
 use Rattle.built_in.specs.declared.class_id.ClassId.{ClassId}
 use Rattle.built_in.specs.declared.class_id.ClassId.TheVariants as classes
 use Rattle.loading.specs.Families.{Family}
-use Rattle.vm_state.specs.Objects.{ObjectRow, AscendsFrom, object_in}
+use Rattle.vm_state.specs.Objects.{HeldObjects, AscendsFrom, object_in}
 use Rattle.vm_state.proofs.ObjectLemmas.{none_below}
 use Rattle.vm_state.specs.Pools.{pool_by}
 use Rattle.vm_state.specs.SharedState.{Pool, Region}
@@ -237,13 +237,13 @@ row_holds S count least (t ∷ ts) (o ∷ os) numbers rises holds n = elim (test
         by None e = rw (e, apart) refl
         by (Some x) e = rw e refl
 
-pub row_holds_all : (S : List (List ℕ)) (count : ℕ) (told : List KeptObject) (row : ObjectRow)
+pub row_holds_all : (S : List (List ℕ)) (count : ℕ) (told : List KeptObject) (row : HeldObjects)
     (objects : List (ℕ × Object)) → row ≡ record { count = count; objects = objects }
     → AreNumbered versions.Two count 0 told → AllZip (HoldsKept S) told objects
     → HoldsObjects S count told (pool_by row)
 row_holds_all S count told row objects is numbers holds =
     let rises = row_ascends S count 0 told objects (omega arith) numbers holds in
-    let Q : ObjectRow → Type 0 = λ r. HoldsObjects S count told (pool_by r) in
+    let Q : HeldObjects → Type 0 = λ r. HoldsObjects S count told (pool_by r) in
     subst Q (sym is) (record { count = refl; each = row_holds S count 0 told objects numbers rises holds })
 
 -- ---- regions

@@ -10,8 +10,8 @@ use Rattle.vm_state.specs.declared.kept.Kept.{Kept}
 use Rattle.vm_state.specs.declared.object.Object.{Object}
 use Rattle.vm_state.specs.declared.value.Value.{Value}
 use Rattle.vm_state.specs.declared.value.Value.TheVariants as values
-use Rattle.vm_state.specs.Objects.{ObjectRow, numbered_kept}
-use Rattle.vm_state.specs.Pools.{IsRowOf, pool_by}
+use Rattle.vm_state.specs.Objects.{HeldObjects, numbered_kept}
+use Rattle.vm_state.specs.Pools.{IsListOf, pool_by}
 use Rattle.vm_state.specs.Values.{IsNumber}
 use Rattle.region_shape.specs.declared.regions.Region.{Region}
 use Rattle.object_graph.proofs.RowLemmas.{found_in, stands}
@@ -57,7 +57,7 @@ module _ (regions : List (Option Region)) where
 
   -- ---- objects at places
 
-  kept_is : (row : ObjectRow) (k n : ℕ) (kept : Kept) (held : ℕ × Object)
+  kept_is : (row : HeldObjects) (k n : ℕ) (kept : Kept) (held : ℕ × Object)
       → Some (n, kept) ≡ option_map numbered_kept (slice_get row.objects k) → slice_get row.objects k ≡ Some held
       → kept.slots ≡ held.1.slots
   kept_is row k n kept held here at =
@@ -65,7 +65,7 @@ module _ (regions : List (Option Region)) where
       same_Some (n, kept) (numbered_kept held) (here ∙ ap (option_map numbered_kept) at) in
       ap (λ (x : ℕ × Kept). x.1.slots) both
 
-  some_kept : (row : ObjectRow) (k n : ℕ) (kept : Kept)
+  some_kept : (row : HeldObjects) (k n : ℕ) (kept : Kept)
       → Some (n, kept) ≡ option_map numbered_kept (slice_get row.objects k)
       → (held : ℕ × Object) × (slice_get row.objects k ≡ Some held)
   some_kept row k n kept here = by (slice_get row.objects k) refl
@@ -75,7 +75,7 @@ module _ (regions : List (Option Region)) where
       by None none = absurd (let clash : Some (n, kept) ≡ None = here ∙ ap (option_map numbered_kept) none in cc)
       by (Some held) some = (held, some)
 
-  pub kept_decided : (row : ObjectRow) (k n : ℕ) (kept : Kept) (b : Bool)
+  pub kept_decided : (row : HeldObjects) (k n : ℕ) (kept : Kept) (b : Bool)
       → Some (n, kept) ≡ option_map numbered_kept (slice_get row.objects k)
       → Decides b (SlotsName regions kept.slots) → Decides b (KeptNames regions row k)
   kept_decided row k n kept b here d = (
@@ -84,7 +84,7 @@ module _ (regions : List (Option Region)) where
         d.1 (subst (SlotsName regions) (sym (kept_is row k n kept some.0 here some.1)) (h some.0 some.1)),
   )
 
-  pub no_kept : (row : ObjectRow) (k : ℕ) → None ≡ option_map numbered_kept (slice_get row.objects k)
+  pub no_kept : (row : HeldObjects) (k : ℕ) → None ≡ option_map numbered_kept (slice_get row.objects k)
       → Decides true (KeptNames regions row k)
   no_kept row k none = (
     λ e held at. absurd (let clash : None ≡ Some (numbered_kept held) =
@@ -94,14 +94,15 @@ module _ (regions : List (Option Region)) where
 
   -- ---- whole rows
 
-  pub pool_of_kept : (row : ObjectRow) → IsRowOf row.objects (pool_by row)
+  pub pool_of_kept : (row : HeldObjects) → IsListOf row.objects (pool_by row)
       → AllBelow (KeptNames regions row) (length row.objects) → PoolNames regions (pool_by row)
   pool_of_kept row is all n object at =
       let s = stands row.objects n object (sym (ap (λ (f : ℕ → Option Object). f n) is.all) ∙ at) in
       let names = all s.0.index (slice_get_within row.objects s.0.index s.0.held s.0.at) s.0.held s.0.at in
       subst (λ (o : Object). SlotsName regions o.slots) s.1 names
 
-  pub kept_of_pool : (row : ObjectRow) → IsRowOf row.objects (pool_by row) → (k : ℕ) → PoolNames regions (pool_by row)
+  pub kept_of_pool : (row : HeldObjects) → IsListOf row.objects (pool_by row) → (k : ℕ) → PoolNames regions
+      (pool_by row)
       → KeptNames regions row k
   kept_of_pool row is k names held at =
       names held.0 held.1 (ap (λ (f : ℕ → Option Object). f held.0) is.all ∙ found_in row k held is.ascending at)

@@ -12,7 +12,7 @@ use Rattle.loading.specs.Families.{Family}
 use Rattle.vm_state.specs.declared.object.Object.{Object}
 use Rattle.vm_state.specs.declared.object.Monitor.TheVariants.{Free}
 use Rattle.vm_state.specs.declared.value.Value.{Value}
-use Rattle.vm_state.specs.Objects.{ObjectRow, AscendsFrom}
+use Rattle.vm_state.specs.Objects.{HeldObjects, AscendsFrom}
 use Rattle.vm_state.specs.Pools.{pool_by}
 use Rattle.vm_state.specs.SharedState.{Pool, Region}
 use Rattle.vm_state.specs.Statics.{field_in}
@@ -184,7 +184,7 @@ row_of S (t ∷ ts) all pool found holds =
     one (Some x) held = (x, held)
 
 pub objects_held : (P Q : Tables) (version : Version) (count many : ℕ) (bytes middle rest : List ℕ)
-    (objects : List (ℕ × Object)) (row : ObjectRow) → many_at version count bytes ≡ Ok (many, middle)
+    (objects : List (ℕ × Object)) (row : HeldObjects) → many_at version count bytes ≡ Ok (many, middle)
     → AscendsFrom 0 objects count → row ≡ record { count = count; objects = objects }
     → IsHeld HoldsRow P Q objects (λ told. (told, rest)) (so_many_at version P.family count many middle)
     → IsHeld (λ (S : Strings). HoldsObjects S count) P Q (pool_by row) (λ told. (told, rest))

@@ -24,7 +24,7 @@ use program::runtime_constant::FieldKind;
 use region_shape::regions::Region;
 use std::alloc::{AllocError, Global};
 use vm_state::classes::Fields;
-use vm_state::heap::Row;
+use vm_state::heap::Pool;
 use vm_state::object::Object;
 use vm_state::value::Value;
 
@@ -145,13 +145,13 @@ fn objects_at<'a>(
     program: &mut Program,
     count: u32,
     bytes: &'a [u8],
-) -> Result<(Row, &'a [u8]), RegionFault>
+) -> Result<(Pool, &'a [u8]), RegionFault>
     ensures { Reads (λ strings. HoldsObjects strings count) (λ x. (pool_by x.0, x.1.now)) program.old program.new result
         (objects_at version program.old.family count bytes.now) }
 {
     let (many, rest) = many_at(version, count, bytes)?;
     let (objects, rest) = so_many_at(alloc, version, program, count, many, rest)?;
-    let row = Row::of_objects(alloc, u64::from(count), objects)?;
+    let row = Pool::of_objects(alloc, u64::from(count), objects)?;
     Ok((row, rest))
 }
 

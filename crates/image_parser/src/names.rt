@@ -11,7 +11,7 @@ use object_graph::static_count;
 use program::Program;
 use region_shape::regions::{Region, Regions};
 use vm_state::classes::Fields;
-use vm_state::heap::Row;
+use vm_state::heap::Pool;
 use vm_state::object::Slots;
 use vm_state::value::Value;
 
@@ -68,7 +68,7 @@ fn slots_name(regions: &Regions, slots: &Slots) -> bool
 }
 
 /// Whether those are that the object at a place of a row names.
-fn kept_names(regions: &Regions, row: &Row, place: usize) -> bool
+fn kept_names(regions: &Regions, row: &Pool, place: usize) -> bool
     ensures { Decides result (KeptNames regions.now row.now place) }
 {
     match row.at(place) {
@@ -78,7 +78,7 @@ fn kept_names(regions: &Regions, row: &Row, place: usize) -> bool
 }
 
 /// Whether those are that the objects of a row name.
-fn row_names(regions: &Regions, row: &Row) -> bool
+fn row_names(regions: &Regions, row: &Pool) -> bool
     ensures { Decides result (PoolNames regions.now (pool_by row.now)) }
 {
     for place in 0..row.len() {

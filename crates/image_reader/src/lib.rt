@@ -7,4 +7,4 @@ mod start;
 
 pub use image_parser::ImageFault;
 pub use reading::{read, read_by_two};
-pub use start::world;
+pub use start::{into_world, world};

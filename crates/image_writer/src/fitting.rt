@@ -10,7 +10,7 @@ ghost use Rattle.image_writer.specs.steps.Fits.{ClassFits, FitsType};
 
 use object_graph::Image;
 use vm_state::classes::Fields;
-use vm_state::heap::Row;
+use vm_state::heap::Pool;
 use vm_state::object::Slots;
 use vm_state::value::Value;
 
@@ -43,7 +43,7 @@ fn show_fields_fit(fields: &Fields, count: u32)
 }
 
 /// The numbers of the values in objects fit.
-fn show_objects_fit(objects: &Row)
+fn show_objects_fit(objects: &Pool)
     ensures { All (λ (o : ℕ × Held). All FitsType o.1.slots) objects.now.objects }
 {
     for place in 0..objects.len() {

@@ -23,7 +23,7 @@ use program::Program;
 use program::runtime_constant::FieldKind;
 use region_shape::regions::Region;
 use std::alloc::{AllocError, Global};
-use vm_state::heap::Row;
+use vm_state::heap::Pool;
 use vm_state::kept::Kept;
 use vm_state::object::Slots;
 
@@ -147,7 +147,7 @@ fn push_objects(
     alloc: Global,
     out: &mut Vec<u8>,
     program: &Program,
-    objects: &Row,
+    objects: &Pool,
 ) -> Result<(), AllocError>
     requires files { HasFiles program.now }
     requires sized { All (λ (o : ℕ × Held). IsSizedObject program.now o.1) objects.now.objects }

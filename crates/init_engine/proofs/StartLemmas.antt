@@ -5,7 +5,7 @@ use Rattle.std.proofs.Math.Path.{fun_ext}
 use Rattle.std.proofs.lemmas.List.{replicate-append-replicate}
 use Rattle.vm_state.specs.declared.classes.ClassArea.{ClassArea as Area}
 use Rattle.vm_state.specs.declared.heap.Heap.{Heap}
-use Rattle.vm_state.specs.Objects.{ObjectRow, row_of}
+use Rattle.vm_state.specs.Objects.{HeldObjects, one_held}
 use Rattle.vm_state.specs.SharedTables.{SharedTables}
 use Rattle.semantics.specs.Steps.{Thread as DefinedThread, Going}
 use Rattle.vm_state.specs.declared.value.Value.{Value}
@@ -52,7 +52,7 @@ first_below n = grind arith
 next_below : (t n : ℕ) → nat_lt (suc t) (suc n) ≡ nat_lt t n
 next_below t n = grind arith
 
-pool_at : (n t : ℕ) → pool_in (replicate n (row_of argument)) t ≡ (if nat_lt t n then argument_pool else empty_pool)
+pool_at : (n t : ℕ) → pool_in (replicate n (one_held argument)) t ≡ (if nat_lt t n then argument_pool else empty_pool)
 pool_at zero t = rw (below_none t) refl
 pool_at (suc n) zero = rw (first_below n) refl
 pool_at (suc n) (suc t) = rw (next_below t n) (pool_at n t)
@@ -61,18 +61,18 @@ pool_at (suc n) (suc t) = rw (next_below t n) (pool_at n t)
 pub replicate_more : {X : Type 0} (n : ℕ) (x : X) → replicate n x ++ x ∷ [] ≡ replicate (n + 1) x
 replicate_more n x = replicate-append-replicate n 1 x
 
-abbrev heap_by : List ObjectRow → Heap
+abbrev heap_by : List HeldObjects → Heap
 heap_by rows = record { classes = []; threads = rows }
 
 -- a heap with one more thread's argument
 pub one_more : (n : ℕ) (old new : Heap) (first : Object) → first ≡ argument
-    → old ≡ record { classes = []; threads = replicate n (row_of argument) }
-    → new ≡ record old { threads = old.threads ++ row_of first ∷ [] } →
-    new ≡ record { classes = []; threads = replicate (n + 1) (row_of argument) }
+    → old ≡ record { classes = []; threads = replicate n (one_held argument) }
+    → new ≡ record old { threads = old.threads ++ one_held first ∷ [] } →
+    new ≡ record { classes = []; threads = replicate (n + 1) (one_held argument) }
 one_more n old new first is before more =
-    more ∙ (ap (λ (o : Object). record old { threads = old.threads ++ row_of o ∷ [] }) is
-    ∙ (ap (λ (h : Heap). record h { threads = h.threads ++ row_of argument ∷ [] }) before
-    ∙ ap (λ (rows : List ObjectRow). heap_by rows) (replicate_more n (row_of argument))))
+    more ∙ (ap (λ (o : Object). record old { threads = old.threads ++ one_held o ∷ [] }) is
+    ∙ (ap (λ (h : Heap). record h { threads = h.threads ++ one_held argument ∷ [] }) before
+    ∙ ap (λ (rows : List HeldObjects). heap_by rows) (replicate_more n (one_held argument))))
 
 abbrev region : (ℕ → Value) → Pool → Region
 region fields pool = record { fields = fields; pool = pool }
@@ -95,11 +95,11 @@ abbrev tables_by : List Area → Heap → SharedTables
 tables_by classes heap = record { classes = classes; heap = heap }
 
 start_shared : (P : Tables) (cs : List ℕ)
-    → shared_of (tables_by (blank_areas P.classes) (heap_by (replicate (length cs) (row_of argument)))) []
+    → shared_of (tables_by (blank_areas P.classes) (heap_by (replicate (length cs) (one_held argument)))) []
     ≡ (lazy_start (program_of P) cs).shared
 unfolding shared_of
 start_shared P cs =
-    let pools : ℕ → Pool = pool_in (replicate (length cs) (row_of argument)) in
+    let pools : ℕ → Pool = pool_in (replicate (length cs) (one_held argument)) in
     ap (λ states. shared_by states (λ d. region (fields_of (blank_areas P.classes) d) (pool_in [] d)) pools)
     (states-blank P.classes)
     ∙ (ap (λ (regions : ℕ → Region). shared_by (λ d. Uninitialized) regions pools) (fun_ext (blank_region-is P))
@@ -108,13 +108,13 @@ start_shared P cs =
 
 -- tables that are equal to those of the lazy start
 pub lazy_shares : (P : Tables) (count : ℕ) (classes : List Area) (heap : Heap) (shared : SharedTables)
-    → classes ≡ blank_areas P.classes → heap ≡ record { classes = []; threads = replicate count (row_of argument) }
+    → classes ≡ blank_areas P.classes → heap ≡ record { classes = []; threads = replicate count (one_held argument) }
     → shared ≡ tables_by classes heap → IsLazyShared P count shared
 lazy_shares P count classes heap shared are-classes is-heap is cs counted =
     ap (λ (s : SharedTables). shared_of s []) is
     ∙ (ap (λ (ks : List Area). shared_of (tables_by ks heap) []) are-classes
     ∙ (ap (λ (h : Heap). shared_of (tables_by (blank_areas P.classes) h) [])
-    (is-heap ∙ ap (λ (n : ℕ). heap_by (replicate n (row_of argument))) (sym counted))
+    (is-heap ∙ ap (λ (n : ℕ). heap_by (replicate n (one_held argument))) (sym counted))
     ∙ start_shared P cs))
 
 abbrev world_by : SharedState → List DefinedThread → World

@@ -20,7 +20,7 @@ use program::Program;
 use std::alloc::{AllocError, Global};
 use vm_state::classes::{ClassState, Usability};
 use vm_state::ends::End;
-use vm_state::initialization::{Frames, Initialization, Parents};
+use vm_state::initialization::{Frames, Initialization, ParentsLeft};
 use vm_state::output::Output;
 use vm_state::shared::Shared;
 use vm_state::text::Text;
@@ -61,7 +61,7 @@ fn begin(
 {
     let statics = program.statics(class);
     shared.keep(alloc, class, statics.len())?;
-    let left = Parents::of(alloc, program.init_order(class))?;
+    let left = ParentsLeft::of(alloc, program.init_order(class))?;
     let thread = frames.thread;
     frames.enter(
         alloc,

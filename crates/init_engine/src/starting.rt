@@ -2,7 +2,7 @@
 
 ghost use Rattle.std.specs.Prelude.{◌≡◌, ◌↔◌, ◌⊎◌, ◌<◌, ◌≤◌, ◌∷◌, [], length, map, replicate};
 ghost use Rattle.std.specs.Prelude.{Err, IfErr, IfOk, OnOk};
-ghost use Rattle.vm_state.specs.Objects.{row_of};
+ghost use Rattle.vm_state.specs.Objects.{one_held};
 ghost use Rattle.semantics.specs.Worlds.{argument, threads_from};
 ghost use Rattle.machine.specs.Linked.{program_of, start_frame};
 ghost use Rattle.init_engine.specs.Numbering.{AreNumbered};
@@ -121,7 +121,7 @@ fn argument(alloc: Global) -> Object
 
 /// The argument of each thread, its first object, and no others.
 fn arguments(alloc: Global, count: usize) -> Result<Heap, AllocError>
-    ensures { IfOk result (λ heap. heap ≡ record { classes = []; threads = replicate count (row_of argument) }) }
+    ensures { IfOk result (λ heap. heap ≡ record { classes = []; threads = replicate count (one_held argument) }) }
 {
     let mut heap = Heap::new(alloc);
     for _ in 0..count {

@@ -7,7 +7,7 @@ ghost use Rattle.machine.specs.Arrays.{is_checked, check_store, load_element, st
 ghost use Rattle.machine.specs.steps.ArrayAccesses.{Finds, PassesOn, reach_loaded, reach_stored};
 
 use crate::abrupt::{Abrupt, end_early};
-use crate::array_references::{Element, element_at, third_reference};
+use crate::array_references::{FoundElement, element_at, third_reference};
 use crate::array_types::{can_hold, stored_as};
 use crate::kinds::{Actor, Conclusion, Stop};
 use crate::pushing::replace_two;
@@ -26,7 +26,7 @@ use vm_state::value::Value;
 /// What is stored, and where.
 #[derive(Clone, Copy)]
 pub struct Assignment {
-    pub element: Element,
+    pub element: FoundElement,
     pub value: Value,
 }
 

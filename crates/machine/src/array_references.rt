@@ -25,7 +25,7 @@ use vm_state::value::{Fault, Name, Value};
 
 /// An element that there is.
 #[derive(Clone, Copy)]
-pub struct Element {
+pub struct FoundElement {
     /// Its array.
     pub name: Name,
     /// The array's type.
@@ -89,7 +89,7 @@ pub fn element_at<S: Store>(
     kind: ElementKind,
     array: Value,
     index: i32,
-) -> Result<Element, Abrupt>
+) -> Result<FoundElement, Abrupt>
     ensures { (p : List Print) → Finds S.stopped (S.run by (S.state store.now p)) (reach_element kind array index)
         result }
 {
@@ -97,7 +97,7 @@ pub fn element_at<S: Store>(
     let array = served_type(kind, class)?;
     let size = store.size(by, name)?;
     let slot = slot_at(index, size)?;
-    Ok(Element { name, array, slot })
+    Ok(FoundElement { name, array, slot })
 }
 
 /// The length of the array to which the reference on top is.

@@ -8,11 +8,9 @@ ghost use Rattle.machine.specs.Accesses.{Gives, Keeps};
 use crate::call_operation::CallOperation;
 use crate::calling::call_static;
 use crate::instance_calls::call_instance;
-use crate::kinds::{Actor, Conclusion, Stop};
+use crate::kinds::{Conclusion, Execution, Stop};
 use crate::printing::{end_line, print_value};
 use crate::store::Store;
-use program::Program;
-use std::alloc::Global;
 use vm_state::frame::Frame;
 use vm_state::spares::Spares;
 
@@ -23,26 +21,23 @@ use vm_state::spares::Spares;
 /// definitions see of it.
 #[tactic(auto, using(crate::proofs::AccessesLemmas::untouched_as))]
 pub fn execute_call<S: Store>(
-    alloc: Global,
+    given: Execution<'_>,
     spares: &mut Spares,
-    program: &Program,
-    by: Actor,
     frame: &mut Frame,
     store: &mut S,
     operation: CallOperation,
 ) -> Result<Conclusion, Stop>
-    ensures gives { (p : List Print) → Gives S.stopped (S.run by (S.state store.old p)) (S.run by (S.state store.new p))
-        (call_row program.now operation frame.old) frame.new result }
+    ensures gives { (p : List Print) → Gives S.stopped (S.run given.entry.by (S.state store.old p))
+        (S.run given.entry.by (S.state store.new p))
+        (call_row given.entry.program.now operation frame.old) frame.new result }
     ensures kept { Keeps S.state result store.old store.new frame.old frame.new }
 {
     match operation {
-        CallOperation::Static(call) => call_static(alloc, spares, program, by, frame, store, call),
-        CallOperation::Instance(call) => call_instance(
-            alloc, spares, program, by, frame, store, call,
-        ),
+        CallOperation::Static(call) => call_static(given, spares, frame, store, call),
+        CallOperation::Instance(call) => call_instance(given, spares, frame, store, call),
         CallOperation::Print(what, line, call) => {
-            print_value(alloc, spares, program, by, frame, store, what, line, call)
+            print_value(given, spares, frame, store, what, line, call)
         }
-        CallOperation::EndLine(call) => end_line(alloc, spares, program, by, frame, store, call),
+        CallOperation::EndLine(call) => end_line(given, spares, frame, store, call),
     }
 }

@@ -11,7 +11,7 @@ ghost use Rattle.machine.specs.Accesses.{Gives, KeptBy, Untouched, Keeps};
 
 use crate::arrays::on_array;
 use crate::call_execution::execute_call;
-use crate::kinds::{Actor, Conclusion, Stop};
+use crate::kinds::{Actor, Conclusion, Execution, Stop};
 use crate::object_execution::execute_on_object;
 use crate::pushing::{push_number, push_value};
 use crate::raising::trap;
@@ -52,18 +52,18 @@ fn end<S: Store>(
 #[tactic(auto, using(crate::proofs::AccessesLemmas::kept_by_same, crate::proofs::AccessesLemmas::untouched_as))]
 #[inline(always)]
 fn execute_resolved<S: Store>(
-    alloc: Global,
+    given: Execution<'_>,
     spares: &mut Spares,
-    program: &Program,
-    by: Actor,
     frame: &mut Frame,
     store: &mut S,
     resolved: Resolved,
 ) -> Result<Conclusion, Stop>
-    ensures gives { (p : List Print) → Gives S.stopped (S.run by (S.state store.old p)) (S.run by (S.state store.new p))
-        (operation_row program.now (meaning resolved) frame.old) frame.new result }
+    ensures gives { (p : List Print) → Gives S.stopped (S.run given.entry.by (S.state store.old p))
+        (S.run given.entry.by (S.state store.new p))
+        (operation_row given.entry.program.now (meaning resolved) frame.old) frame.new result }
     ensures kept { Keeps S.state result store.old store.new frame.old frame.new }
 {
+    let Execution { alloc, program, by } = given;
     match resolved {
         Resolved::PushInt(number) => Ok(push_number(frame, Value::Int(number))),
         Resolved::PushLong(number) => Ok(push_number(frame, Value::Long(number))),
@@ -74,9 +74,7 @@ fn execute_resolved<S: Store>(
         }
         Resolved::GetOut => Ok(push_value(frame, Value::Out)),
         Resolved::OnArray(operation) => on_array(alloc, program, by, frame, store, operation),
-        Resolved::OnCall(operation) => execute_call(
-            alloc, spares, program, by, frame, store, operation,
-        ),
+        Resolved::OnCall(operation) => execute_call(given, spares, frame, store, operation),
         Resolved::Return(kind) => Ok(return_value(frame, kind)),
         Resolved::OnObject(operation) => {
             execute_on_object(alloc, program, by, frame, store, operation)
@@ -88,19 +86,20 @@ fn execute_resolved<S: Store>(
 /// The next instruction of a method's frame.
 #[tactic(auto, unfolding(crate::specs::Operations::operation_at))]
 fn execute_next<S: Store>(
-    alloc: Global,
+    given: Execution<'_>,
     spares: &mut Spares,
-    program: &Program,
-    by: Actor,
     frame: &mut Frame,
     store: &mut S,
     class: u32,
     method: u16,
 ) -> Result<Conclusion, Stop>
-    ensures gives { (p : List Print) → Gives S.stopped (S.run by (S.state store.old p)) (S.run by (S.state store.new p))
-        (fetched program.now (operation_at program.now class method frame.old.place) frame.old) frame.new result }
+    ensures gives { (p : List Print) → Gives S.stopped (S.run given.entry.by (S.state store.old p))
+        (S.run given.entry.by (S.state store.new p))
+        (fetched given.entry.program.now (operation_at given.entry.program.now class method frame.old.place)
+        frame.old) frame.new result }
     ensures kept { Keeps S.state result store.old store.new frame.old frame.new }
 {
+    let Execution { alloc, program, by } = given;
     let Some(instruction) = program.instruction(class, method, frame.place) else {
         return Ok(Conclusion::Halts(FaultKind::Fault));
     };
@@ -108,7 +107,7 @@ fn execute_next<S: Store>(
         Some(went) => end(alloc, by, frame, store, went),
         None => {
             let resolved = resolved_operation(program, class, method, instruction);
-            execute_resolved(alloc, spares, program, by, frame, store, resolved)
+            execute_resolved(given, spares, frame, store, resolved)
         }
     }
 }
@@ -134,7 +133,8 @@ pub fn execute<S: Store>(
     match frame.activity {
         Activity::Start(class) => start(alloc, program, by, frame, store, class),
         Activity::Method { class, index } => {
-            execute_next(alloc, spares, program, by, frame, store, class, index)
+            let given = Execution { alloc, program, by };
+            execute_next(given, spares, frame, store, class, index)
         }
     }
 }

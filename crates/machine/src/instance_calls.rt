@@ -8,7 +8,7 @@ ghost use Rattle.machine.specs.Accesses.{Gives, Keeps};
 
 use crate::call_operation::{Choice, InstanceCall};
 use crate::calling::{has_arguments, parameters, reached};
-use crate::kinds::{Actor, Conclusion, Stop};
+use crate::kinds::{Conclusion, Execution, Receiver, Stop};
 use crate::members::run_member;
 use crate::raising::raise;
 use crate::references::class_of;
@@ -16,9 +16,8 @@ use crate::store::Store;
 use built_in::class_id::BuiltIn;
 use frame_instructions::control_transfer::is_null;
 use frame_instructions::operand_kind::OperandKind;
+use program::Method;
 use program::runtime_constant::FieldKind;
-use program::{Method, Program};
-use std::alloc::Global;
 use vm_state::cells::Cells;
 use vm_state::ends::FaultKind;
 use vm_state::frame::Frame;
@@ -42,65 +41,54 @@ pub fn receiver_under(cells: &Cells, kinds: &[FieldKind]) -> Result<Value, Fault
     OperandKind::Reference.of(cells.below(kinds.len())?)
 }
 
-/// A method, if there is one, on a receiver that is not null, with `count` operands as its receiver and arguments.
+/// A method, if there is one, on a receiver that is not null.
 #[tactic(auto, unfolding(crate::specs::Accesses::unless_refused), using(crate::proofs::AccessesLemmas::kept_by_same))]
 fn run_method<S: Store>(
-    alloc: Global,
+    given: Execution<'_>,
     spares: &mut Spares,
-    program: &Program,
-    by: Actor,
     frame: &mut Frame,
     store: &mut S,
     method: Option<Method>,
-    receiver: Value,
-    count: usize,
+    receiver: Receiver,
 ) -> Result<Conclusion, Stop>
-    ensures gives { (p : List Print) → Gives S.stopped (S.run by (S.state store.old p)) (S.run by (S.state store.new p))
-        (runs program.now count receiver frame.old method) frame.new result }
+    ensures gives { (p : List Print) → Gives S.stopped (S.run given.entry.by (S.state store.old p))
+        (S.run given.entry.by (S.state store.new p))
+        (runs given.entry.program.now receiver.count receiver.value frame.old method) frame.new result }
     ensures kept { Keeps S.state result store.old store.new frame.old frame.new }
 {
     match method {
         Some(Method::Given { class, index }) => {
-            reached(alloc, spares, program, class, index, frame, count)
+            let Execution { alloc, program, .. } = given;
+            reached(alloc, spares, program, class, index, frame, receiver.count)
         }
-        Some(Method::BuiltIn(member)) => {
-            run_member(alloc, program, by, frame, store, member, receiver, count)
-        }
+        Some(Method::BuiltIn(member)) => run_member(given, frame, store, member, receiver),
         None => Ok(Conclusion::Halts(FaultKind::Missing)),
     }
 }
 
-/// The method that a call runs on a receiver which is not null.
+/// The method that a call runs on a receiver that is not null.
 #[tactic(auto, using(crate::proofs::AccessesLemmas::kept_by_same, crate::proofs::AccessesLemmas::untouched_as))]
 fn run_chosen<S: Store>(
-    alloc: Global,
+    given: Execution<'_>,
     spares: &mut Spares,
-    program: &Program,
-    by: Actor,
     frame: &mut Frame,
     store: &mut S,
     choice: Choice,
-    receiver: Value,
-    count: usize,
+    receiver: Receiver,
 ) -> Result<Conclusion, Stop>
-    ensures gives { (p : List Print) → Gives S.stopped (S.run by (S.state store.old p)) (S.run by (S.state store.new p))
-        (runs_chosen program.now choice count frame.old receiver) frame.new result }
+    ensures gives { (p : List Print) → Gives S.stopped (S.run given.entry.by (S.state store.old p))
+        (S.run given.entry.by (S.state store.new p))
+        (runs_chosen given.entry.program.now choice receiver.count frame.old receiver.value) frame.new result }
     ensures kept { Keeps S.state result store.old store.new frame.old frame.new }
 {
     match choice {
-        Choice::Found(method) => {
-            run_method(
-                alloc, spares, program, by, frame, store, method, receiver, count,
-            )
-        }
+        Choice::Found(method) => run_method(given, spares, frame, store, method, receiver),
         Choice::Selected(method) => {
-            let Some(class) = class_of(store, by, receiver)? else {
+            let Some(class) = class_of(store, given.by, receiver.value)? else {
                 return FAULT;
             };
-            let selected = program.select(class, method);
-            run_method(
-                alloc, spares, program, by, frame, store, selected, receiver, count,
-            )
+            let selected = given.program.select(class, method);
+            run_method(given, spares, frame, store, selected, receiver)
         }
     }
 }
@@ -121,44 +109,33 @@ pub fn names_another(call: InstanceCall, receiver: Value) -> bool
     is_out(receiver) && !call.names_stream
 }
 
-/// A call on a receiver, which is one of `count` operands.
+/// A call on a receiver.
 ///
 /// # Errors
 /// The store's reason, or `Stop::Memory`. The frame is as it was, and so is the store; where memory is refused, what
 /// definitions see of it.
 #[tactic(auto, using(crate::proofs::AccessesLemmas::kept_by_same, crate::proofs::AccessesLemmas::untouched_as))]
 pub fn call_on<S: Store>(
-    alloc: Global,
+    given: Execution<'_>,
     spares: &mut Spares,
-    program: &Program,
-    by: Actor,
     frame: &mut Frame,
     store: &mut S,
     call: InstanceCall,
-    receiver: Value,
-    count: usize,
+    receiver: Receiver,
 ) -> Result<Conclusion, Stop>
-    ensures gives { (p : List Print) → Gives S.stopped (S.run by (S.state store.old p)) (S.run by (S.state store.new p))
-        (called_on program.now call count frame.old receiver) frame.new result }
+    ensures gives { (p : List Print) → Gives S.stopped (S.run given.entry.by (S.state store.old p))
+        (S.run given.entry.by (S.state store.new p))
+        (called_on given.entry.program.now call receiver.count frame.old receiver.value) frame.new result }
     ensures kept { Keeps S.state result store.old store.new frame.old frame.new }
 {
-    if names_another(call, receiver) {
+    if names_another(call, receiver.value) {
         return FAULT;
     }
-    if is_null(receiver) {
+    if is_null(receiver.value) {
+        let Execution { alloc, by, .. } = given;
         return raise(alloc, by, store, BuiltIn::NullPointerException);
     }
-    run_chosen(
-        alloc,
-        spares,
-        program,
-        by,
-        frame,
-        store,
-        call.choice,
-        receiver,
-        count,
-    )
+    run_chosen(given, spares, frame, store, call.choice, receiver)
 }
 
 /// A call of an instance method.
@@ -168,33 +145,26 @@ pub fn call_on<S: Store>(
 /// definitions see of it.
 #[tactic(auto, using(crate::proofs::AccessesLemmas::kept_by_same, crate::proofs::AccessesLemmas::untouched_as))]
 pub fn call_instance<S: Store>(
-    alloc: Global,
+    given: Execution<'_>,
     spares: &mut Spares,
-    program: &Program,
-    by: Actor,
     frame: &mut Frame,
     store: &mut S,
     call: InstanceCall,
 ) -> Result<Conclusion, Stop>
-    ensures gives { (p : List Print) → Gives S.stopped (S.run by (S.state store.old p)) (S.run by (S.state store.new p))
-        (call_instance program.now call frame.old) frame.new result }
+    ensures gives { (p : List Print) → Gives S.stopped (S.run given.entry.by (S.state store.old p))
+        (S.run given.entry.by (S.state store.new p))
+        (call_instance given.entry.program.now call frame.old) frame.new result }
     ensures kept { Keeps S.state result store.old store.new frame.old frame.new }
 {
-    let Some(kinds) = parameters(program, call.caller, call.descriptor) else {
+    let Some(kinds) = parameters(given.program, call.caller, call.descriptor) else {
         return FAULT;
     };
     let Ok(receiver) = receiver_under(&frame.cells, kinds) else {
         return FAULT;
     };
-    call_on(
-        alloc,
-        spares,
-        program,
-        by,
-        frame,
-        store,
-        call,
-        receiver,
-        kinds.len() + 1,
-    )
+    let receiver = Receiver {
+        value: receiver,
+        count: kinds.len() + 1,
+    };
+    call_on(given, spares, frame, store, call, receiver)
 }

@@ -1,9 +1,10 @@
-//! Who executes an instruction, how it ends, and what stops one.
+//! Who executes an instruction, in what program, how it ends, and what stops one.
 
 ghost use Rattle.std.specs.Prelude.{◌≡◌};
 
 use built_in::class_id::ClassId;
-use std::alloc::AllocError;
+use program::Program;
+use std::alloc::{AllocError, Global};
 use vm_state::ends::{End, FaultKind};
 use vm_state::frame::Frame;
 use vm_state::text::Text;
@@ -16,6 +17,21 @@ pub struct Actor {
     pub thread: u32,
     /// Who counts the objects that it makes.
     pub maker: Maker,
+}
+
+/// What instructions are executed in, beside their frame and their store.
+#[derive(Clone, Copy)]
+pub struct Execution<'a> {
+    pub alloc: Global,
+    pub program: &'a Program,
+    pub by: Actor,
+}
+
+/// The receiver of a call, the lowest of so many operands on top.
+#[derive(Clone, Copy)]
+pub struct Receiver {
+    pub value: Value,
+    pub count: usize,
 }
 
 /// How an instruction ended in its own frame.

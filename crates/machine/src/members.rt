@@ -7,7 +7,7 @@ ghost use Rattle.machine.specs.ObjectParts.{look_into_named};
 ghost use Rattle.machine.specs.Members.{new_enum, or_slot, enum_part, copy_of, clone_array, member_row};
 ghost use Rattle.machine.specs.Accesses.{Gives, Untouched, Keeps, concluded};
 
-use crate::kinds::{Actor, Conclusion, Stop};
+use crate::kinds::{Actor, Conclusion, Execution, Receiver, Stop};
 use crate::objects::is_of;
 use crate::pushing::replace_top;
 use crate::references::{name_of, second_reference, without_object};
@@ -168,34 +168,34 @@ fn clone_array<S: Store>(
     }
 }
 
-/// A method of a built-in class or of an array, on a receiver that is not null, the lowest of `count` operands.
+/// A method of a built-in class or of an array, on a receiver that is not null.
 ///
 /// # Errors
 /// The store's reason, or `Stop::Memory`. The frame is as it was, and so is the store; where memory is refused, what
 /// definitions see of it.
 #[tactic(auto, using(crate::proofs::AccessesLemmas::kept_by_same, crate::proofs::AccessesLemmas::untouched_as))]
 pub fn run_member<S: Store>(
-    alloc: Global,
-    program: &Program,
-    by: Actor,
+    given: Execution<'_>,
     frame: &mut Frame,
     store: &mut S,
     member: BuiltInMethod,
-    receiver: Value,
-    count: usize,
+    receiver: Receiver,
 ) -> Result<Conclusion, Stop>
-    ensures gives { (p : List Print) → Gives S.stopped (S.run by (S.state store.old p)) (S.run by (S.state store.new p))
-        (member_row program.now member count receiver frame.old) frame.new result }
+    ensures gives { (p : List Print) → Gives S.stopped (S.run given.entry.by (S.state store.old p))
+        (S.run given.entry.by (S.state store.new p))
+        (member_row given.entry.program.now member receiver.count receiver.value frame.old) frame.new result }
     ensures kept { Keeps S.state result store.old store.new frame.old frame.new }
 {
+    let Execution { alloc, program, by } = given;
+    let Receiver { value, count } = receiver;
     match member {
         BuiltInMethod::NewObject
         | BuiltInMethod::NewThrowable
         | BuiltInMethod::NewThrowableOfText => Ok(drop_operands(frame, count)),
-        BuiltInMethod::NewEnum => new_enum(alloc, program, by, frame, store, receiver),
-        BuiltInMethod::EnumName => enum_part(alloc, program, by, frame, store, receiver, 0),
-        BuiltInMethod::EnumOrdinal => enum_part(alloc, program, by, frame, store, receiver, 1),
-        BuiltInMethod::CloneArray => clone_array(alloc, by, frame, store, receiver),
+        BuiltInMethod::NewEnum => new_enum(alloc, program, by, frame, store, value),
+        BuiltInMethod::EnumName => enum_part(alloc, program, by, frame, store, value, 0),
+        BuiltInMethod::EnumOrdinal => enum_part(alloc, program, by, frame, store, value, 1),
+        BuiltInMethod::CloneArray => clone_array(alloc, by, frame, store, value),
         BuiltInMethod::Print(_) | BuiltInMethod::PrintLine(_) | BuiltInMethod::EndLine => FAULT,
     }
 }

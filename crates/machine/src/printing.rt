@@ -9,7 +9,7 @@ ghost use Rattle.machine.specs.Accesses.{Gives, Keeps};
 
 use crate::call_operation::InstanceCall;
 use crate::instance_calls::{call_on, is_out};
-use crate::kinds::{Actor, Conclusion, Stop};
+use crate::kinds::{Conclusion, Execution, Receiver, Stop};
 use crate::references::second_reference;
 use crate::store::Store;
 use classfile::{printed, printed_unit};
@@ -81,32 +81,28 @@ fn ended(line: bool, text: Text) -> Result<Text, AllocError>
     if line { text.with_line_end() } else { Ok(text) }
 }
 
-/// Prints a text on a receiver, or calls the method that another receiver has, with `count` operands.
+/// Prints a text on a receiver, or calls the method that another receiver has.
 #[tactic(auto, using(crate::proofs::AccessesLemmas::kept_by_same, crate::proofs::AccessesLemmas::untouched_as))]
 fn print_on<S: Store>(
-    alloc: Global,
+    given: Execution<'_>,
     spares: &mut Spares,
-    program: &Program,
-    by: Actor,
     frame: &mut Frame,
     store: &mut S,
     call: InstanceCall,
-    receiver: Value,
+    receiver: Receiver,
     text: Text,
-    count: usize,
 ) -> Result<Conclusion, Stop>
-    ensures gives { (p : List Print) → Gives S.stopped (S.run by (S.state store.old p)) (S.run by (S.state store.new p))
-        (print_on program.now text count call frame.old receiver) frame.new result }
+    ensures gives { (p : List Print) → Gives S.stopped (S.run given.entry.by (S.state store.old p))
+        (S.run given.entry.by (S.state store.new p))
+        (print_on given.entry.program.now text receiver.count call frame.old receiver.value) frame.new result }
     ensures kept { Keeps S.state result store.old store.new frame.old frame.new }
 {
-    if !is_out(receiver) {
-        return call_on(
-            alloc, spares, program, by, frame, store, call, receiver, count,
-        );
+    if !is_out(receiver.value) {
+        return call_on(given, spares, frame, store, call, receiver);
     }
     Ok(Conclusion::Prints {
         text,
-        operands: count,
+        operands: receiver.count,
     })
 }
 
@@ -117,33 +113,34 @@ fn print_on<S: Store>(
 /// definitions see of it.
 #[tactic(auto, unfolding(crate::specs::Accesses::unless_refused))]
 pub fn print_value<S: Store>(
-    alloc: Global,
+    given: Execution<'_>,
     spares: &mut Spares,
-    program: &Program,
-    by: Actor,
     frame: &mut Frame,
     store: &mut S,
     what: Printed,
     line: bool,
     call: InstanceCall,
 ) -> Result<Conclusion, Stop>
-    ensures gives { (p : List Print) → Gives S.stopped (S.run by (S.state store.old p)) (S.run by (S.state store.new p))
-        (print_value program.now what line call frame.old) frame.new result }
+    ensures gives { (p : List Print) → Gives S.stopped (S.run given.entry.by (S.state store.old p))
+        (S.run given.entry.by (S.state store.new p))
+        (print_value given.entry.program.now what line call frame.old) frame.new result }
     ensures kept { Keeps S.state result store.old store.new frame.old frame.new }
 {
     let Ok(value) = frame.cells.top() else {
         return FAULT;
     };
-    let Some(text) = printed_text(alloc, program, what, value)? else {
+    let Some(text) = printed_text(given.alloc, given.program, what, value)? else {
         return FAULT;
     };
     let Ok(receiver) = second_reference(&frame.cells) else {
         return FAULT;
     };
     let text = ended(line, text)?;
-    print_on(
-        alloc, spares, program, by, frame, store, call, receiver, text, 2,
-    )
+    let receiver = Receiver {
+        value: receiver,
+        count: 2,
+    };
+    print_on(given, spares, frame, store, call, receiver, text)
 }
 
 /// `println()`.
@@ -153,23 +150,24 @@ pub fn print_value<S: Store>(
 /// definitions see of it.
 #[tactic(auto, unfolding(crate::specs::Accesses::unless_refused))]
 pub fn end_line<S: Store>(
-    alloc: Global,
+    given: Execution<'_>,
     spares: &mut Spares,
-    program: &Program,
-    by: Actor,
     frame: &mut Frame,
     store: &mut S,
     call: InstanceCall,
 ) -> Result<Conclusion, Stop>
-    ensures gives { (p : List Print) → Gives S.stopped (S.run by (S.state store.old p)) (S.run by (S.state store.new p))
-        (end_line program.now call frame.old) frame.new result }
+    ensures gives { (p : List Print) → Gives S.stopped (S.run given.entry.by (S.state store.old p))
+        (S.run given.entry.by (S.state store.new p))
+        (end_line given.entry.program.now call frame.old) frame.new result }
     ensures kept { Keeps S.state result store.old store.new frame.old frame.new }
 {
     let Ok(receiver) = top_as(&frame.cells, OperandKind::Reference) else {
         return FAULT;
     };
-    let text = Text::line_end(alloc)?;
-    print_on(
-        alloc, spares, program, by, frame, store, call, receiver, text, 1,
-    )
+    let text = Text::line_end(given.alloc)?;
+    let receiver = Receiver {
+        value: receiver,
+        count: 1,
+    };
+    print_on(given, spares, frame, store, call, receiver, text)
 }

@@ -11,7 +11,7 @@ use crate::readers::add_digest;
 use crate::streams::Compared;
 use building::{BuildFault, BuildOptions, Built, build_program, build_program_here};
 use classfile::ClassName;
-use image_reader::{read, world};
+use image_reader::{into_world, read, world};
 use image_writer::{WriteFault, write};
 use object_graph::{Image, reachable};
 use report::render;
@@ -52,9 +52,12 @@ pub fn call<R: Threads + Wait + Sync, W: Write>(
                 build(rt, page, word, &files)?;
             }
         }
-        "render" | "image_writer::write" | "image_reader::read" | "world" | "reachable" => {
-            of_image(page, word, text, images)?
-        }
+        "render"
+        | "image_writer::write"
+        | "image_reader::read"
+        | "world"
+        | "into_world"
+        | "reachable" => of_image(page, word, text, images)?,
         _ => return Ok(false),
     }
     Ok(true)
@@ -178,6 +181,7 @@ fn ask_twice<W: Write>(
             "image_writer::write" => write_image(page, image, bytes)?,
             "image_reader::read" => read_image(page, bytes)?,
             "world" => start_at(page, image, &entries)?,
+            "into_world" => start_from(page, bytes, &entries)?,
             _ => reach_all(page, image)?,
         }
     }
@@ -209,6 +213,29 @@ fn start_at<W: Write>(
     page.ask("world")?;
     match world(page.alloc, image, entries) {
         Ok(start) => page.value(start.thread_count() as usize),
+        Err(fault) => page.line(&fault),
+    }
+}
+
+fn start_from<W: Write>(
+    page: &mut Page<'_, W>,
+    bytes: &[u8],
+    entries: &[ClassName],
+) -> io::Result<()> {
+    match read(page.alloc, bytes) {
+        Ok(image) => start_by_moving(page, image, entries),
+        Err(_) => Err(wrong_data()),
+    }
+}
+
+fn start_by_moving<W: Write>(
+    page: &mut Page<'_, W>,
+    image: Image,
+    entries: &[ClassName],
+) -> io::Result<()> {
+    page.ask("into_world")?;
+    match into_world(page.alloc, image, entries) {
+        Ok((_, start)) => page.value(start.thread_count() as usize),
         Err(fault) => page.line(&fault),
     }
 }

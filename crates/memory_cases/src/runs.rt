@@ -10,7 +10,7 @@ use program::Program;
 use std::alloc::{AllocError, Global};
 use std::io::{self, Write};
 use vm_state::classes::Fields;
-use vm_state::heap::Row;
+use vm_state::heap::Pool;
 
 /// No run here takes as many steps.
 const MANY: u64 = 10_000;
@@ -104,7 +104,7 @@ fn see_world<W: Write>(page: &mut Page<'_, W>, world: World) -> io::Result<()> {
 fn initialized(alloc: Global, program: &Program) -> Result<Shared, AllocError> {
     let mut shared = lazy_shared(alloc, program, 1)?;
     for class in 0..program.given_count() {
-        shared.initialize(alloc, class, Fields::new(alloc), Row::new(alloc))?;
+        shared.initialize(alloc, class, Fields::new(alloc), Pool::new(alloc))?;
     }
     Ok(shared)
 }

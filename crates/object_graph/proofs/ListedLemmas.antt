@@ -10,7 +10,7 @@ use Rattle.std.proofs.lemmas.List.Elements.{Contains-append_cases, Contains-appe
 use Rattle.std.proofs.lemmas.Option.{slice_get-get_or, slice_get_within, slice_get-map, get_or_from_slice_get}
 use Rattle.vm_state.specs.declared.object.Object.{Object}
 use Rattle.vm_state.specs.declared.kept.Kept.{Kept}
-use Rattle.vm_state.specs.Objects.{ObjectRow, object_in, numbered_kept}
+use Rattle.vm_state.specs.Objects.{HeldObjects, object_in, numbered_kept}
 use Rattle.vm_state.specs.SharedState.{Region}
 use Rattle.object_graph.proofs.RowPlaceLemmas.{is_at}
 use Rattle.program.specs.Tables.{Tables}
@@ -81,7 +81,7 @@ one_name c os i n k front names new here so_far pushed =
 
 -- ---- each once
 
-distinct_of : (c : ℕ) (row : ObjectRow) → Ascends row → AreDistinct (names_of c row.objects)
+distinct_of : (c : ℕ) (row : HeldObjects) → Ascends row → AreDistinct (names_of c row.objects)
 distinct_of c row rise i j x at_i at_j =
     let a = named_at c row.objects i x at_i in
     let b = named_at c row.objects j x at_j in

@@ -4,7 +4,7 @@ use Rattle.std.proofs.Common.{None, is_some, slice_get, option_map, refl, sym, a
 use Rattle.std.proofs.Common.{inl, inr, arith}
 use Rattle.std.proofs.lemmas.Bool.{cases_lt}
 use Rattle.vm_state.specs.declared.object.Object.{Object}
-use Rattle.vm_state.specs.Objects.{ObjectRow, AscendsFrom, or_later, object_in}
+use Rattle.vm_state.specs.Objects.{HeldObjects, AscendsFrom, or_later, object_in}
 use Rattle.vm_state.specs.steps.Objects.{if_numbered, object_at_place}
 use Rattle.vm_state.proofs.ListLemmas.{tested}
 use Rattle.vm_state.proofs.ObjectLemmas.{found_at}
@@ -79,7 +79,7 @@ some_held (x ∷ xs) (suc i) held at = by (object_in xs held.0) refl (some_held 
 
 -- ---- where numbers rise
 
-pub found_in : (row : ObjectRow) (i : ℕ) (held : ℕ × Object) → Ascends row → slice_get row.objects i ≡ Some held
+pub found_in : (row : HeldObjects) (i : ℕ) (held : ℕ × Object) → Ascends row → slice_get row.objects i ≡ Some held
     → object_in row.objects held.0 ≡ Some held.1
 found_in row i held rise at =
     let same : (held.0 == held.0) ≡ true = eq-eqb held.0 held.0 refl in
@@ -110,7 +110,7 @@ never_twice low (x ∷ xs) count (suc i) (suc j) a b (h, hs) lt p q e =
     never_twice (x.0 + 1) xs count i j a b hs (omega (arith, lt)) p q e
 
 -- two indices of one number are one
-pub one_index : (row : ObjectRow) (i j : ℕ) (a b : ℕ × Object) → Ascends row → slice_get row.objects i ≡ Some a
+pub one_index : (row : HeldObjects) (i j : ℕ) (a b : ℕ × Object) → Ascends row → slice_get row.objects i ≡ Some a
     → slice_get row.objects j ≡ Some b → a.0 ≡ b.0 → i ≡ j
 one_index row i j a b rise p q same = elim (cases_lt i j) [
   | inl less ↦ absurd (never_twice 0 row.objects row.count i j a b rise less p q same)

@@ -1,4 +1,4 @@
--- What stands at a place of a row, as `Row::at` says it.
+-- What stands at a place of a row, as `Pool::at` says it.
 use Rattle.std.proofs.Common.{◌≡◌, ◌<◌, ℕ, zero, suc, List, [], ◌∷◌, Option, Some, None, length, slice_get, option_map}
 use Rattle.std.proofs.Common.{refl, sym, ap, arith}
 use Rattle.vm_state.specs.declared.object.Object.{Object}
@@ -34,7 +34,7 @@ past_all [] place none low = omega (arith, low)
 past_all (o ∷ os) zero none low = cc
 past_all (o ∷ os) (suc place) none low = past_all os place none (omega (arith, low))
 
--- so where `Row::at` finds none
+-- so where `Pool::at` finds none
 pub none_held : {R : Type 0} (os : List (ℕ × Object)) (place : ℕ) (r : Option R) (read : R → ℕ × Kept)
     → option_map read r ≡ option_map numbered_kept (slice_get os place) → ((x : R) → r ≡ Some x → ⊥)
     → place < length os → ⊥

@@ -8,10 +8,10 @@ ghost use Rattle.program.specs.Tables.{statics_in};
 
 use classfile::ClassFile;
 use program::Program;
-use vm_state::heap::Row;
+use vm_state::heap::Pool;
 
 /// How many objects are held, where fewer than 2^32 were made.
-pub(crate) fn count_of(objects: &Row) -> u32
+pub(crate) fn count_of(objects: &Pool) -> u32
     requires { (pool_by objects.now).count < 2 ^ 32 }
     ensures { result ≡ held_count (pool_by objects.now) }
 {

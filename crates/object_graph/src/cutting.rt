@@ -8,7 +8,7 @@ ghost use Rattle.object_graph.specs.steps.Kept.{only_if, kept_from, kept_row, ke
 use place_set::PlaceSet;
 use region_shape::regions::{Region, Regions};
 use std::alloc::{AllocError, Global};
-use vm_state::heap::Row;
+use vm_state::heap::Pool;
 use vm_state::object::Object;
 
 /// Adds an object with its number, if it is wanted.
@@ -45,12 +45,12 @@ fn found_objects(
 }
 
 /// The row of a class with those objects alone whose places are found.
-fn found_row(alloc: Global, found: &PlaceSet, class: u32, row: Row) -> Result<Row, AllocError>
+fn found_row(alloc: Global, found: &PlaceSet, class: u32, row: Pool) -> Result<Pool, AllocError>
     ensures { IfOk result (λ kept. kept ≡ kept_row found.now class row) }
 {
     let (count, objects) = row.into_parts(alloc)?;
     match found_objects(alloc, found, class, objects) {
-        Ok(kept) => Row::of_objects(alloc, count, kept),
+        Ok(kept) => Pool::of_objects(alloc, count, kept),
         Err(error) => Err(error),
     }
 }

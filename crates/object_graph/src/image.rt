@@ -65,6 +65,19 @@ impl Image {
         self.regions.get(class)
     }
 
+    /// The program and the regions, for a caller that needs no image any more.
+    pub fn into_parts(self) -> (Program, Regions)
+        ensures program { result.0 ≡ self.program }
+        ensures regions { result.1 ≡ self.regions }
+        // What holds of every image.
+        ensures whole { AreWhole self.program (environment_of self.regions) }
+        ensures small { AreSmall self.program (environment_of self.regions) }
+        ensures reached { AreReached self.program (environment_of self.regions) }
+    {
+        let Image { program, regions } = self;
+        (program, regions)
+    }
+
     /// The regions.
     pub(crate) fn regions(&self) -> &Regions
         ensures { result.now ≡ self.now.regions }

@@ -48,12 +48,12 @@ impl<R: rt::Files + AllocGlobal> Files for Disk<'_, R> {
     }
 
     fn are_one(&mut self, first: &str, second: &str) -> bool {
-        first == second || have_one_place(self.rt, first, second)
+        first == second || are_one_regular_file(self.rt, first, second)
     }
 }
 
 /// Whether two names are of one regular file.
-fn have_one_place<R: rt::Files>(rt: &R, first: &str, second: &str) -> bool {
+fn are_one_regular_file<R: rt::Files>(rt: &R, first: &str, second: &str) -> bool {
     match (fs::metadata(rt, first), fs::metadata(rt, second)) {
         (Ok(one), Ok(other)) => {
             one.is_file() && one.dev() == other.dev() && one.ino() == other.ino()

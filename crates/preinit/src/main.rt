@@ -11,7 +11,7 @@ ghost use Rattle.std.specs.Thread.{IsSend, IsSync};
 
 use cli::{CommandEnd, Refusal, Status, Unwatched, command_holding};
 use disk::Disk;
-use progress::Progress;
+use progress::ProgressLine;
 use std::io::{self, ErrorKind, IsTerminal, Write};
 use std::process::ExitCode;
 use std::sync::Wait;
@@ -20,14 +20,14 @@ use std::{env, mem, rt};
 
 /// Why there was no command to do.
 #[derive(Drop)]
-enum Stop {
+enum NoCommand {
     Memory,
     /// A word is not UTF-8.
     Words,
 }
 
 /// Does the command that the words of the process name. A long build tells how far it has come, if it is said where.
-fn run<R, W, E, P>(rt: &R, out: W, errors: &mut E, terminal: Option<P>) -> Result<u8, Stop>
+fn run<R, W, E, P>(rt: &R, out: W, errors: &mut E, terminal: Option<P>) -> Result<u8, NoCommand>
 where
     R: rt::Env + rt::Files + rt::Clock + AllocGlobal + Threads + Wait + Sync,
     W: Write + Send + Drop,
@@ -39,17 +39,17 @@ where
 }
 
 /// The words of the process, the program's name first.
-fn texts_of<R: rt::Env + AllocGlobal>(rt: &R) -> Result<Vec<String>, Stop> {
+fn texts_of<R: rt::Env + AllocGlobal>(rt: &R) -> Result<Vec<String>, NoCommand> {
     match env::args(rt) {
-        Ok(texts) => texts.collect(rt.alloc()).map_err(|_| Stop::Memory),
-        Err(error) => Err(stop_of(error)),
+        Ok(texts) => texts.collect(rt.alloc()).map_err(|_| NoCommand::Memory),
+        Err(error) => Err(no_command(error)),
     }
 }
 
-fn stop_of(error: io::Error) -> Stop {
+fn no_command(error: io::Error) -> NoCommand {
     match error.kind() {
-        ErrorKind::OutOfMemory => Stop::Memory,
-        _ => Stop::Words,
+        ErrorKind::OutOfMemory => NoCommand::Memory,
+        _ => NoCommand::Words,
     }
 }
 
@@ -60,7 +60,7 @@ fn run_words<R, W, E, P>(
     out: W,
     errors: &mut E,
     terminal: Option<P>,
-) -> Result<u8, Stop>
+) -> Result<u8, NoCommand>
 where
     R: rt::Files + rt::Clock + AllocGlobal + Threads + Wait + Sync,
     W: Write + Send + Drop,
@@ -73,7 +73,7 @@ where
         .skip(1)
         .map(|text| text.as_str())
         .collect(alloc)
-        .map_err(|_| Stop::Memory)?;
+        .map_err(|_| NoCommand::Memory)?;
     let words = words.as_slice();
     let CommandEnd {
         status,
@@ -107,7 +107,7 @@ where
     E: Write,
 {
     if is_build(words) && words.contains(&"--verbose") {
-        let progress = Progress::new(rt, io::sink());
+        let progress = ProgressLine::new(rt, io::sink());
         let mut disk = Disk::new(rt);
         command_holding(rt, rt.alloc(), words, &mut disk, out, errors, &progress)
     } else {
@@ -155,7 +155,7 @@ where
     E: Write,
     P: Write + Send + Drop,
 {
-    let progress = Progress::new(rt, terminal);
+    let progress = ProgressLine::new(rt, terminal);
     let watch = || progress.tell();
     let build = || -> CommandEnd<W>
         requires handle { IsSync R.row }
@@ -180,12 +180,12 @@ fn main(rt: HostRuntime) -> ExitCode {
     };
     let status = match run(&rt, rt.stdout(), &mut errors, terminal) {
         Ok(status) => status,
-        Err(Stop::Memory) => {
+        Err(NoCommand::Memory) => {
             let refusal = Refusal::Memory;
             let _ = writeln!(errors, "preinit: {refusal}");
             refusal.status().code()
         }
-        Err(Stop::Words) => {
+        Err(NoCommand::Words) => {
             let _ = writeln!(errors, "error: a word of the command line is not UTF-8");
             Status::Words.code()
         }

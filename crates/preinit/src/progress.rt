@@ -32,14 +32,14 @@ struct State<E: Write> {
 
 /// How far a build has come, told by its thread and its workers to a thread that tells it on.
 #[derive(Drop)]
-pub struct Progress<'a, R, E: Write> {
+pub struct ProgressLine<'a, R, E: Write> {
     rt: &'a R,
     state: Mutex<State<E>>,
     ended: Condvar,
 }
 
-impl<'a, R: AllocGlobal, E: Write> Progress<'a, R, E> {
-    pub fn new(rt: &'a R, to: E) -> Progress<'a, R, E> {
+impl<'a, R: AllocGlobal, E: Write> ProgressLine<'a, R, E> {
+    pub fn new(rt: &'a R, to: E) -> ProgressLine<'a, R, E> {
         let state = State {
             to,
             stage: Stage::Reading,
@@ -48,7 +48,7 @@ impl<'a, R: AllocGlobal, E: Write> Progress<'a, R, E> {
             told: false,
             over: false,
         };
-        Progress {
+        ProgressLine {
             rt,
             state: Mutex::new(state),
             ended: Condvar::new(),
@@ -56,7 +56,7 @@ impl<'a, R: AllocGlobal, E: Write> Progress<'a, R, E> {
     }
 }
 
-impl<R: Wait + Clock, E: Write> Progress<'_, R, E> {
+impl<R: Wait + Clock, E: Write> ProgressLine<'_, R, E> {
     /// Tells how far the build has come, from two seconds on and until it is over.
     pub fn tell(&self) {
         let mut state = self.waited(self.state.lock(self.rt), PATIENCE);
@@ -83,7 +83,7 @@ impl<R: Wait + Clock, E: Write> Progress<'_, R, E> {
     }
 }
 
-impl<R: Wait, E: Write> Progress<'_, R, E> {
+impl<R: Wait, E: Write> ProgressLine<'_, R, E> {
     /// The build is over: the line goes.
     pub fn end(&self) {
         let mut state = self.state.lock(self.rt);
@@ -139,7 +139,7 @@ impl<E: Write> State<E> {
     }
 }
 
-impl<R: Wait + Sync, E: Write + Send> Watch for Progress<'_, R, E> {
+impl<R: Wait + Sync, E: Write + Send> Watch for ProgressLine<'_, R, E> {
     fn watches(&self) -> bool {
         true
     }

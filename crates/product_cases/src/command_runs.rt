@@ -27,10 +27,10 @@ pub fn answer<R: Threads + Wait + Sync>(
     let words = words_of(alloc, text)?;
     let mut errors = Vec::new(alloc);
     let (status, out) = command(rt, alloc, &words, shelf, Vec::new(alloc), &mut errors);
-    told(alloc, status, &out, &errors)
+    answer_text(alloc, status, &out, &errors)
 }
 
-fn told(alloc: Global, status: u8, out: &[u8], errors: &[u8]) -> Result<String, AllocError> {
+fn answer_text(alloc: Global, status: u8, out: &[u8], errors: &[u8]) -> Result<String, AllocError> {
     let out = from_utf8(out).unwrap_or("no text");
     let errors = from_utf8(errors).unwrap_or("no text");
     format!(in alloc; "{status} [{out}] [{errors}]")
@@ -115,7 +115,7 @@ pub fn with_output<R: Threads + Wait + Sync>(
     let words = words_of(alloc, text)?;
     let mut errors = Vec::new(alloc);
     let (status, _out) = command(rt, alloc, &words, shelf, Narrow { room }, &mut errors);
-    told(alloc, status, &[], &errors)
+    answer_text(alloc, status, &[], &errors)
 }
 
 /// What a command answers whose standard error has so much room.
@@ -129,7 +129,7 @@ pub fn with_errors<R: Threads + Wait + Sync>(
     let words = words_of(alloc, text)?;
     let mut errors = Narrow { room };
     let (status, out) = command(rt, alloc, &words, shelf, Vec::new(alloc), &mut errors);
-    told(alloc, status, &out, &[])
+    answer_text(alloc, status, &out, &[])
 }
 
 /// The status of a command, and which of the two streams got a text where the other got nothing.

@@ -12,13 +12,13 @@ use std::alloc::{AllocError, Global};
 /// number of bytes below their count. How many of these writes tell how many bytes went out, and these are the first.
 pub fn failing(alloc: Global, bytes: &[u8]) -> Result<String, AllocError> {
     match read(alloc, bytes) {
-        Ok(image) => told_writes(alloc, &image, bytes),
+        Ok(image) => writes_text(alloc, &image, bytes),
         Err(fault) => format!(in alloc; "{fault:?}"),
     }
 }
 
 /// How many writes are told right where the sink fails, and where it answers 0, of how many each.
-fn told_writes(alloc: Global, image: &Image, bytes: &[u8]) -> Result<String, AllocError>
+fn writes_text(alloc: Global, image: &Image, bytes: &[u8]) -> Result<String, AllocError>
     requires { AreShort image.now.program.family }
 {
     let failed = right_writes(alloc, image, bytes, false);
@@ -33,7 +33,7 @@ fn right_writes(alloc: Global, image: &Image, bytes: &[u8], stalls: bool) -> usi
 {
     let mut right = 0usize;
     for room in 0..bytes.len() {
-        if is_told(alloc, image, bytes, room, stalls) {
+        if is_right(alloc, image, bytes, room, stalls) {
             right = right.saturating_add(1);
         }
     }
@@ -41,7 +41,7 @@ fn right_writes(alloc: Global, image: &Image, bytes: &[u8], stalls: bool) -> usi
 }
 
 /// Whether a write into a sink of this room answers `Device` with as many bytes as went out, which are the first.
-fn is_told(alloc: Global, image: &Image, bytes: &[u8], room: usize, stalls: bool) -> bool
+fn is_right(alloc: Global, image: &Image, bytes: &[u8], room: usize, stalls: bool) -> bool
     requires { AreShort image.now.program.family }
 {
     let mut out = Out::new(OneByOne {

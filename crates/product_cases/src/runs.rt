@@ -60,11 +60,11 @@ fn run_on(
     limit: u64,
 ) -> Result<String, AllocError> {
     let (world, schedule) = turns(alloc, program, world, limit)?;
-    told(alloc, program, &world, &schedule)
+    turns_text(alloc, program, &world, &schedule)
 }
 
 /// The steps of a schedule, and what is seen of the world that it led to.
-fn told(
+fn turns_text(
     alloc: Global,
     program: &Program,
     world: &World,

@@ -31,7 +31,7 @@ use crate::methods::{initializer_of, main_of, methods_of};
 use crate::named_classes::NamedClasses;
 use crate::resolver::{Linker, Resolver};
 use crate::signature::{Signatures, signatures_of};
-use crate::slots::Slots;
+use crate::slots::SlotTable;
 use crate::static_numbers::StaticNumbers;
 use crate::statics::statics_of;
 use classfile::ClassFile;
@@ -111,7 +111,7 @@ fn with_slots(alloc: Global, hierarchy: Hierarchy) -> Result<Program, AllocError
     ensures orders { IfOk result (λ program. AreOrders program.family program.orders) }
     ensures own_strings { IfOk result HasOwnStrings }
 {
-    match Slots::of_family(alloc, hierarchy.family()) {
+    match SlotTable::of_family(alloc, hierarchy.family()) {
         Ok(slots) => with_tables(alloc, hierarchy, slots),
         Err(error) => {
             drop(hierarchy);
@@ -121,7 +121,7 @@ fn with_slots(alloc: Global, hierarchy: Hierarchy) -> Result<Program, AllocError
 }
 
 /// The program of a hierarchy and of the slots of its classes.
-fn with_tables(alloc: Global, hierarchy: Hierarchy, slots: Slots) -> Result<Program, AllocError>
+fn with_tables(alloc: Global, hierarchy: Hierarchy, slots: SlotTable) -> Result<Program, AllocError>
     requires links { Links (files_of hierarchy.family) }
     requires slots { AreSlots hierarchy.family slots }
     ensures family { IfOk result (λ program. program.family ≡ hierarchy.family) }
@@ -148,7 +148,7 @@ struct Tables {
 }
 
 /// The tables of a hierarchy.
-fn tables_of(alloc: Global, hierarchy: &Hierarchy, slots: &Slots) -> Result<Tables, AllocError>
+fn tables_of(alloc: Global, hierarchy: &Hierarchy, slots: &SlotTable) -> Result<Tables, AllocError>
     requires { AreSlots hierarchy.now.family slots.now }
     ensures order_count { IfOk result (λ tables. length tables.orders ≡ length hierarchy.now.family) }
     ensures orders { IfOk result (λ tables. AreOrders hierarchy.now.family tables.orders) }
@@ -164,7 +164,7 @@ fn tables_of(alloc: Global, hierarchy: &Hierarchy, slots: &Slots) -> Result<Tabl
 fn with_classes(
     alloc: Global,
     hierarchy: &Hierarchy,
-    slots: &Slots,
+    slots: &SlotTable,
     orders: ClassLists,
 ) -> Result<Tables, AllocError>
     requires { AreSlots hierarchy.now.family slots.now }
@@ -187,7 +187,7 @@ fn with_classes(
 fn class_tables(
     alloc: Global,
     hierarchy: &Hierarchy,
-    slots: &Slots,
+    slots: &SlotTable,
 ) -> Result<(Vec<Class>, Texts), AllocError>
     requires { AreSlots hierarchy.now.family slots.now }
     ensures classes { IfOk result (λ tables. AreClasses hierarchy.now.family tables.1 tables.0.items) }
@@ -203,7 +203,7 @@ fn class_tables(
 
 /// A program of its parts.
 #[tactic(auto, using(crate::proofs::AddedStringsLemmas::own_alone))]
-fn joined(hierarchy: Hierarchy, slots: Slots, tables: Tables) -> Program
+fn joined(hierarchy: Hierarchy, slots: SlotTable, tables: Tables) -> Program
     requires links { Links (files_of hierarchy.family) }
     requires slots { AreSlots hierarchy.family slots }
     requires order_count { length tables.orders ≡ length hierarchy.family }
@@ -229,7 +229,7 @@ fn joined(hierarchy: Hierarchy, slots: Slots, tables: Tables) -> Program
 fn classes_of(
     alloc: Global,
     hierarchy: &Hierarchy,
-    slots: &Slots,
+    slots: &SlotTable,
     strings: &mut Texts,
 ) -> Result<Vec<Class>, AllocError>
     requires { AreSlots hierarchy.now.family slots.now }

@@ -8,7 +8,7 @@ ghost use Rattle.program.specs.steps.Slots.{AreSlots};
 
 use crate::linked_program::Program;
 use crate::runtime_constant::FieldKind;
-use crate::slots::Slots;
+use crate::slots::SlotTable;
 use crate::statics::{field_kind, is_static_field};
 use classfile::{ClassFile, Member};
 use loading::family::Family;
@@ -47,7 +47,7 @@ impl Program {
 /// Adds the kind of each slot of a class, the last first.
 fn add_kinds(
     family: &Family,
-    tables: &Slots,
+    tables: &SlotTable,
     class: u32,
     kinds: &mut Vec<FieldKind>,
 ) -> Result<(), AllocError>

@@ -5,7 +5,7 @@ ghost use Rattle.program.specs.InstanceFields.{own_kinds};
 ghost use Rattle.program.specs.steps.Slots.{AreSlots, AreFieldSlots, AreFieldSlotsOf};
 
 use crate::instance_fields::is_instance_field;
-use crate::slots::Slots;
+use crate::slots::SlotTable;
 use classfile::ClassFile;
 use loading::family::Family;
 use std::alloc::{AllocError, Global};
@@ -58,7 +58,7 @@ impl FieldSlots {
 pub(crate) fn field_slots_of(
     alloc: Global,
     family: &Family,
-    slots: &Slots,
+    slots: &SlotTable,
 ) -> Result<Vec<FieldSlots>, AllocError>
     requires { AreSlots family.now slots.now }
     ensures { IfOk result (λ rows. AreFieldSlotsOf family.now rows.items) }

@@ -15,7 +15,7 @@ use crate::class::{Class, Implementation};
 use crate::class_text::class_text;
 use crate::runtime_constant::RuntimeConstant;
 use crate::signature::Signature;
-use crate::slots::Slots;
+use crate::slots::SlotTable;
 use built_in::class_id::ClassId;
 use bytecode::Instruction;
 use classfile::ClassName;
@@ -36,7 +36,7 @@ pub struct Program {
     /// The distinct strings, as class files spell them.
     pub(crate) strings: Texts,
     /// What objects hold.
-    pub(crate) slots: Slots,
+    pub(crate) slots: SlotTable,
 }
 
 impl Model for Program {

@@ -13,11 +13,11 @@ ghost use Rattle.program.specs.steps.Slots.{AreSlots};
 use crate::instance_fields::has_instances;
 use crate::linked_program::Program;
 use crate::runtime_constant::FieldKind;
-use crate::slots::Slots;
+use crate::slots::SlotTable;
 use crate::statics::zero_of;
 use loading::family::Family;
 use std::alloc::{AllocError, Global};
-use vm_state::object::Slots as ObjectSlots;
+use vm_state::object::Slots;
 use vm_state::value::Value;
 
 impl Program {
@@ -35,14 +35,14 @@ impl Program {
     ///
     /// # Errors
     /// Where memory runs out.
-    pub fn zero_slots(&self, alloc: Global, class: u32) -> Result<ObjectSlots, AllocError>
+    pub fn zero_slots(&self, alloc: Global, class: u32) -> Result<Slots, AllocError>
         ensures { IfOk result (λ slots. slots ≡ map zero_of (slots_of self.now.family class)) }
     {
         let count = self.slots.chain(class).count;
         let mut slots = Vec::with_capacity(alloc, count as usize)?;
         add_zeros(self.hierarchy.family(), &self.slots, class, &mut slots)?;
         slots.reverse();
-        let packed = ObjectSlots::packed(alloc, slots.as_slice())?;
+        let packed = Slots::packed(alloc, slots.as_slice())?;
         Ok(packed)
     }
 }
@@ -50,7 +50,7 @@ impl Program {
 /// Adds zero or null for each slot of a class, the last first.
 fn add_zeros(
     family: &Family,
-    tables: &Slots,
+    tables: &SlotTable,
     class: u32,
     slots: &mut Vec<Value>,
 ) -> Result<(), AllocError>

@@ -102,6 +102,16 @@ fn slot_at(slots: &[FieldSlots], class: u32, index: u16) -> u32
     }
 }
 
+/// A run-time constant pool that is being made.
+#[derive(Drop)]
+struct GrowingPool {
+    /// The members that were resolved first.
+    ahead: MembersAhead,
+    /// The strings so far.
+    earlier: EarlierStrings,
+    pool: RuntimePool,
+}
+
 impl Resolver<'_> {
     /// A field as instructions use it.
     fn target_of(&self, field: Field) -> FieldTarget
@@ -295,10 +305,14 @@ impl Resolver<'_> {
         ensures kept { members.new ≡ members.old }
     {
         let ahead = self.members_ahead(alloc, members)?;
-        let mut pool = RuntimePool::with_capacity(alloc, self.file.constants().len())?;
-        let mut earlier = EarlierStrings::new(alloc);
-        self.add_constants(alloc, members, strings, &ahead, &mut earlier, &mut pool)?;
-        Ok(pool)
+        let pool = RuntimePool::with_capacity(alloc, self.file.constants().len())?;
+        let mut growing = GrowingPool {
+            ahead,
+            earlier: EarlierStrings::new(alloc),
+            pool,
+        };
+        self.add_constants(alloc, members, strings, &mut growing)?;
+        Ok(growing.pool)
     }
 
     /// Adds a constant for each entry of a class file's constant pool.
@@ -307,30 +321,19 @@ impl Resolver<'_> {
         alloc: Global,
         members: &mut MemberResolver<'_>,
         strings: &mut Texts,
-        ahead: &MembersAhead,
-        earlier: &mut EarlierStrings,
-        pool: &mut RuntimePool,
+        growing: &mut GrowingPool,
     ) -> Result<(), AllocError>
         requires members { members.old ≡ self.now.hierarchy.now }
-        requires ahead { AreAhead self.now.hierarchy.now.family self.now.file.now ahead.now }
-        requires empty { pool.old ≡ [] }
+        requires ahead { AreAhead self.now.hierarchy.now.family self.now.file.now growing.old.ahead }
+        requires empty { growing.old.pool ≡ [] }
         ensures pool { OnOk result (IsRuntimePool self.now.hierarchy.now.family strings.new
-            self.now.file.now pool.new) }
+            self.now.file.now growing.new.pool) }
         ensures gains { OnOk result (Gains strings.old (strings_of self.now.file.now) strings.new) }
         ensures kept { members.new ≡ members.old }
     {
         let constants = self.file.constants();
         for (index, constant) in constants.iter().enumerate() {
-            self.add_constant(
-                alloc,
-                members,
-                strings,
-                ahead,
-                index as u16,
-                constant,
-                earlier,
-                pool,
-            )?;
+            self.add_constant(alloc, members, strings, growing, index as u16, constant)?;
         }
         Ok(())
     }
@@ -341,36 +344,37 @@ impl Resolver<'_> {
         alloc: Global,
         members: &mut MemberResolver<'_>,
         strings: &mut Texts,
-        ahead: &MembersAhead,
+        growing: &mut GrowingPool,
         index: u16,
         constant: &Constant,
-        earlier: &mut EarlierStrings,
-        pool: &mut RuntimePool,
     ) -> Result<(), AllocError>
         requires members { members.old ≡ self.now.hierarchy.now }
-        requires ahead { AreAhead self.now.hierarchy.now.family self.now.file.now ahead.now }
+        requires ahead { AreAhead self.now.hierarchy.now.family self.now.file.now growing.old.ahead }
         requires here { slice_get self.now.file.now.constants index ≡ Some constant.now }
         requires pool { AreRuntimeConstants self.now.hierarchy.now.family strings.old
-            self.now.file.now pool.old }
-        requires few { length pool.old < 65535 }
+            self.now.file.now growing.old.pool }
+        requires few { length growing.old.pool < 65535 }
         ensures held { OnOk result ((held : Held)
             × IsRuntimeConstant self.now.hierarchy.now.family strings.new
             self.now.file.now index constant.now held
-            × (pool.new ≡ pool.old ++ held ∷ [])) }
+            × (growing.new.pool ≡ growing.old.pool ++ held ∷ [])) }
+        ensures ahead { growing.new.ahead ≡ growing.old.ahead }
         ensures gains { OnOk result (Gains strings.old (string_of self.now.file.now constant.now) strings.new) }
         ensures kept { members.new ≡ members.old }
     {
         if is_unnamed(constant) {
-            pool.push(RuntimeConstant::Other)?;
+            growing.pool.push(RuntimeConstant::Other)?;
             return Ok(());
         }
-        if let Some(held) = earlier.held(self.file, constant, pool) {
-            pool.push(held)?;
+        if let Some(held) = growing.earlier.held(self.file, constant, &growing.pool) {
+            growing.pool.push(held)?;
             return Ok(());
         }
+        let ahead = &growing.ahead;
         let held = self.runtime_constant_of(alloc, members, strings, ahead, index, constant)?;
-        earlier.note(constant, index, self.file.constants().len())?;
-        pool.push(held)?;
+        let count = self.file.constants().len();
+        growing.earlier.note(constant, index, count)?;
+        growing.pool.push(held)?;
         Ok(())
     }
 }

@@ -32,13 +32,13 @@ impl SlotChain {
 }
 
 /// The slots of the objects of all classes.
-pub(crate) struct Slots {
+pub(crate) struct SlotTable {
     /// By class: those that it adds to those of its given superclass.
     added: Vec<FieldKinds>,
     chains: Vec<SlotChain>,
 }
 
-impl Model for Slots {
+impl Model for SlotTable {
     ghost use Rattle.program.specs.steps.Slots.{SlotTables};
 
     ghost Value = { SlotTables };
@@ -47,18 +47,18 @@ impl Model for Slots {
 }
 
 // By hand, since a derived one is proved anew wherever they are let go.
-impl Drop for Slots {
+impl Drop for SlotTable {
     fn drop(self) {
-        let Slots {
+        let SlotTable {
             added: _,
             chains: _,
         } = self;
     }
 }
 
-impl Slots {
+impl SlotTable {
     /// The slots of the classes of a family.
-    pub(crate) fn of_family(alloc: Global, family: &Family) -> Result<Slots, AllocError>
+    pub(crate) fn of_family(alloc: Global, family: &Family) -> Result<SlotTable, AllocError>
         ensures { IfOk result (AreSlots family.now) }
     {
         let added = added_slots_of(alloc, family.classes())?;
@@ -117,12 +117,16 @@ fn enum_count(class: BuiltIn) -> u32
 }
 
 /// The slots of the classes of a family, from those that each class adds.
-fn with_chains(alloc: Global, family: &Family, added: Vec<FieldKinds>) -> Result<Slots, AllocError>
+fn with_chains(
+    alloc: Global,
+    family: &Family,
+    added: Vec<FieldKinds>,
+) -> Result<SlotTable, AllocError>
     requires { AreAddedBy family.now added.items }
     ensures { IfOk result (AreSlots family.now) }
 {
     match chains_of(alloc, family, added.as_slice()) {
-        Ok(chains) => Ok(Slots { added, chains }),
+        Ok(chains) => Ok(SlotTable { added, chains }),
         Err(error) => Err(error),
     }
 }

@@ -7,13 +7,13 @@ ghost use Rattle.region_shape.specs.Regions.{region_in, with_region};
 use std::alloc::{AllocError, Global};
 use std::marker::Model;
 use vm_state::classes::Fields;
-use vm_state::heap::Row;
+use vm_state::heap::Pool;
 
 /// The region of one class: its static fields, and the objects that its class initialization method made.
 #[derive(Drop)]
 pub struct Region {
     pub fields: Fields,
-    pub objects: Row,
+    pub objects: Pool,
 }
 
 /// The regions of some classes, by the numbers of the classes.

@@ -6,5 +6,6 @@ mod lines;
 mod rendering;
 mod words;
 
+pub use lines::verdict_text;
 pub use rendering::render;
 pub use words::reason_text;

@@ -31,7 +31,8 @@ fn refused_text(
     format!(in alloc; "run {reason}")
 }
 
-fn verdict_text(
+/// The words on a class, as `build 1 2` or `run Prints`.
+pub fn verdict_text(
     alloc: Global,
     image: &Image,
     class: u32,

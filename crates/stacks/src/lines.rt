@@ -12,8 +12,8 @@ use vm_state::frame::{Frame, FrameList};
 use vm_state::initialization::{Frames, Level, Levels};
 use vm_state::shared::Shared;
 
-/// How many places of a stack are told at each of its ends.
-const TOLD: usize = 20;
+/// How many places of a stack are shown at each of its ends.
+const SHOWN: usize = 20;
 
 /// A place of a stack.
 #[derive(Clone, Copy)]
@@ -93,12 +93,12 @@ fn stack_text(alloc: Global, program: &Program, frames: &Frames) -> Result<Strin
     let count = places.len();
     let mut text = String::new(alloc);
     for at in 0..count {
-        if at < TOLD || count - at <= TOLD {
+        if at < SHOWN || count - at <= SHOWN {
             let word = if at == 0 { "at" } else { "in" };
             let place = place_text(alloc, program, places[at])?;
             writeln!(text, "thread {thread} {word} {place}")?;
-        } else if at == TOLD {
-            let left_out = count - 2 * TOLD;
+        } else if at == SHOWN {
+            let left_out = count - 2 * SHOWN;
             writeln!(text, "thread {thread} .. {left_out} left out")?;
         }
     }

@@ -78,7 +78,7 @@ fn get_through<R: Threads + Wait + Abort + AllocGlobal + Sync, G: Gate>(
     Ok(())
 }
 
-/// As many were inside as are needed, and none was late.
+/// Those that are needed were inside at once, and none was late.
 fn all_met<R: Abort, C: Clock>(rt: &R, meet: &Meet<'_, C>) {
     assert!(rt; meet.inside.load(Ordering::SeqCst) >= meet.need);
     assert_eq!(rt; meet.late.load(Ordering::SeqCst), 0);

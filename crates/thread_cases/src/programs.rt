@@ -11,7 +11,7 @@ use std::alloc::{AllocError, Global};
 use std::test::*;
 use thread_runner::{Sink, SinkFault};
 use vm_state::classes::Fields;
-use vm_state::heap::Row;
+use vm_state::heap::Pool;
 
 /// A class that prints 7.
 pub const M: &str = "class M: main 8 8 out bipush 7 println return";
@@ -86,7 +86,7 @@ pub fn start_with(
         let Some(class) = program.number_of(alloc, name)? else {
             return Err(Fail::new("no class"));
         };
-        shared.initialize(alloc, class, Fields::new(alloc), Row::new(alloc))?;
+        shared.initialize(alloc, class, Fields::new(alloc), Pool::new(alloc))?;
     }
     Ok(World::start(alloc, shared, &classes)?)
 }

@@ -170,7 +170,7 @@ impl<O: Session, S: Sink> Desk<O, S> {
     }
 
     /// A commit, and what it printed into the sink.
-    pub(crate) fn turn(
+    pub(crate) fn commit(
         &mut self,
         alloc: Global,
         program: &Program,

@@ -37,7 +37,7 @@ impl<O: Origin> Model for FrontStretch<O> {
 
     ghost view = { λ s. record { from = s.from; asked = s.asked.items; count = s.count; to = frames_of s.to } };
 
-    // So many local steps lead on from its frame.
+    // Local steps, as many as it counts, lead on from its frame.
     ghost invariant = { λ s. (0 < s.count) × (s.count ≤ 1023) × LeadsOn O.program
         (record { from = s.from; asked = s.asked.items; count = s.count; to = frames_of s.to }) };
 }

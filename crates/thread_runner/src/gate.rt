@@ -32,11 +32,11 @@ impl Gate for Open {
 }
 
 /// How often a gate is asked at most.
-const TURNS: u32 = 1_000_000;
+const MOST_ASKS: u32 = 1_000_000;
 
 /// Asks until the gate is ready.
 pub(crate) fn ask<G: Gate>(gate: &G, who: u32, job: u64) {
-    for turn in 0..TURNS {
+    for turn in 0..MOST_ASKS {
         if gate.ready(who, job, turn) {
             return;
         }

@@ -50,17 +50,17 @@ fn put_caller(callers: &mut FrameList, frame: Frame) -> bool
 ///
 /// # Errors
 /// `AllocError` where memory is refused.
-fn turned(alloc: Global, frames: FrameList) -> Result<FrameList, AllocError>
+fn reversed(alloc: Global, frames: FrameList) -> Result<FrameList, AllocError>
     ensures { IfOk result (λ r. r ≡ reverse frames) }
 {
     let mut left = frames;
-    let mut turned = FrameList::none(alloc);
-    'turning: while let Some(frame) = left.pop() {
-        if !put_caller(&mut turned, frame) {
+    let mut reversed = FrameList::none(alloc);
+    'reversing: while let Some(frame) = left.pop() {
+        if !put_caller(&mut reversed, frame) {
             return Err(AllocError);
         }
     }
-    Ok(turned)
+    Ok(reversed)
 }
 
 /// Puts one of some frames on, after `count`. It answers how many they are then, or none where memory is refused;
@@ -114,7 +114,7 @@ fn put_segment(alloc: Global, segment: &mut Segment, top: Segment) -> Result<Und
     ensures err { OnErr result (segment.new ≡ segment.old) }
 {
     let Segment { innermost, callers } = top;
-    match turned(alloc, callers) {
+    match reversed(alloc, callers) {
         Ok(outermost) => match put_callers(&mut segment.callers, outermost) {
             Ok(above) => {
                 let innermost = mem::replace(&mut segment.innermost, innermost);

@@ -91,7 +91,7 @@ impl<'a, O: Session, S: Sink> LockedDesk<'a, O, S> {
         requires thread { thread < length O.start.threads }
     {
         let mut guard = self.desk.lock(rt);
-        let (moves, front) = match guard.turn(alloc, program, thread, made) {
+        let (moves, front) = match guard.commit(alloc, program, thread, made) {
             Next::Sleep => {
                 let moves = guard.begin_sleep();
                 let mut guard = self.moved.wait_while(rt, guard, |desk| desk.is_same(moves));

@@ -1,11 +1,11 @@
--- How many objects a maker's row holds.
+-- How many objects a maker's pool holds.
 use Rattle.std.proofs.Common.{◌≡◌, ℕ, zero, suc, ◌<◌, ◌≤◌, ◌+◌, Bool, is_some, length, true, false, List, [], ◌∷◌}
 use Rattle.std.proofs.Common.{Option, Some, None, refl, sym, ap, ◌∙◌}
 use Rattle.std.proofs.Common.{◌==◌, eqb-true, inl, inr, arith, subst, cond}
 use Rattle.std.proofs.lemmas.List.Sums.{sum_by-cons}
 use Rattle.std.specs.List.{count_by, range_with_len}
 use Rattle.vm_state.specs.declared.object.Object.{Object}
-use Rattle.vm_state.specs.Objects.{AscendsFrom, ObjectRow, or_later, object_in}
+use Rattle.vm_state.specs.Objects.{AscendsFrom, HeldObjects, or_later, object_in}
 use Rattle.vm_state.specs.Pools.{held_count, pool_by}
 use Rattle.vm_state.proofs.ListLemmas.{tested}
 use Rattle.vm_state.proofs.ObjectLemmas.{none_below}
@@ -65,5 +65,5 @@ held-from (suc k) (x ∷ xs) low count is (h, hs) = elim (tested (low == x.0)) [
       omega (arith, rest, count-more (λ n. is_some (object_in (x ∷ xs) n)) low k false (ap is_some none))
 ]
 
-pub held_here : (r : ObjectRow) → AscendsFrom 0 r.objects r.count → length r.objects ≡ held_count (pool_by r)
+pub held_here : (r : HeldObjects) → AscendsFrom 0 r.objects r.count → length r.objects ≡ held_count (pool_by r)
 held_here r h = held-from r.count r.objects 0 r.count (omega arith) h

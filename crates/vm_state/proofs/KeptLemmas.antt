@@ -1,4 +1,4 @@
--- Objects as a row keeps them: their numbers, their monitors, and changes.
+-- Objects as a pool keeps them: their numbers, their monitors, and changes.
 use Rattle.std.proofs.Common.{◌≡◌, ◌<◌, ◌≤◌, ◌+◌, ◌-◌, ◌⊎◌, ℕ, zero, suc, true, false, List, [], ◌∷◌, ◌++◌, Option}
 use Rattle.std.proofs.Common.{Some, None}
 use Rattle.std.proofs.Common.{length, get_or, slice_get, slice_set, refl, sym, subst, ap, ◌∙◌, ◌==◌, eqb-true, inl, inr}
@@ -403,15 +403,15 @@ inside_of w (x ∷ ns) (y ∷ ks) zero n some = omega arith
 inside_of w (x ∷ ns) (y ∷ ks) (suc p) n some =
     let rest : p < length ks = inside_of w ns ks p n some in omega (arith, rest)
 
--- ---- a row changed
+-- ---- a pool changed
 
 same_length : (ks : List Kept) (p : ℕ) (k : Kept) → length (slice_set ks p k) ≡ length ks
 same_length [] p k = refl
 same_length (y ∷ ks) zero k = refl
 same_length (y ∷ ks) (suc p) k = ap suc (same_length ks p k)
 
--- what a row becomes where the object of a number changes
-pub record IsRowChanged (w : List (ℕ × Monitor)) (later : List ℕ) (ks new : List Kept) (count n : ℕ)
+-- what a pool becomes where the object of a number changes
+pub record IsHeldChanged (w : List (ℕ × Monitor)) (later : List ℕ) (ks new : List Kept) (count n : ℕ)
     (change : Object → Object) : Type 0 where
   pub ascends : AscendsFrom 0 (objects_of w (numbers_in later new) new) count
   pub fits : length later ≤ length new
@@ -419,13 +419,13 @@ pub record IsRowChanged (w : List (ℕ × Monitor)) (later : List ℕ) (ks new :
       ≡ with_object (pool_by (record { count = count; objects = objects_of w (numbers_in later ks) ks })) n
       (option_map change (object_in (objects_of w (numbers_in later ks) ks) n))
 
-pub row_changed : (w : List (ℕ × Monitor)) (later : List ℕ) (ks : List Kept) (count place n : ℕ)
+pub held_changed : (w : List (ℕ × Monitor)) (later : List ℕ) (ks : List Kept) (count place n : ℕ)
     (change : Object → Object) (held new : Kept) → length later ≤ length ks →
     AscendsFrom 0 (objects_of w (numbers_in later ks) ks) count →
     IsSome (object_at_place (objects_of w (numbers_in later ks) ks) place n) → held ≡ get_or ks place held →
     with_monitor_in w n new ≡ change (with_monitor_in w n held) →
-    IsRowChanged w later ks (slice_set ks place new) count n change
-row_changed w later ks count place n change held new fits up some was is =
+    IsHeldChanged w later ks (slice_set ks place new) count n change
+held_changed w later ks count place n change held new fits up some was is =
     let ns : List ℕ = numbers_in later ks in
     let os : List (ℕ × Object) = objects_of w ns ks in
     let inside : place < length ks = inside_of w ns ks place n some in
@@ -451,10 +451,10 @@ row_changed w later ks count place n change held new fits up some was is =
 
 -- ---- one more at the end
 
-pub row_more : (w : List (ℕ × Monitor)) (later : List ℕ) (ks : List Kept) (n : ℕ) (k : Kept) (beside : List ℕ)
+pub held_more : (w : List (ℕ × Monitor)) (later : List ℕ) (ks : List Kept) (n : ℕ) (k : Kept) (beside : List ℕ)
     (new : List Kept) → length later ≤ length ks → IsKept later ks n k beside new →
     objects_of w (numbers_in beside new) new ≡ objects_of w (numbers_in later ks) ks ++ (n, with_monitor_in w n k) ∷ []
-row_more w later ks n k beside new fits kept =
+held_more w later ks n k beside new fits kept =
     ap (λ (is : List ℕ). objects_of w is new) kept.numbers
     ∙ (ap (objects_of w (numbers_in later ks ++ n ∷ [])) kept.objects
     ∙ objects_more w (numbers_in later ks) ks n k (length_numbers later ks fits))

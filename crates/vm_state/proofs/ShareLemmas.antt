@@ -15,7 +15,7 @@ use Rattle.vm_state.specs.SharedState.{Pool, Region, SharedState, pool_of, set_p
 use Rattle.vm_state.specs.SharedState.{with_field}
 use Rattle.vm_state.specs.Shares.{shared_of, begun, initialized}
 use Rattle.vm_state.specs.Pools.{pool_in, with_pool}
-use Rattle.vm_state.specs.Objects.{ObjectRow}
+use Rattle.vm_state.specs.Objects.{HeldObjects}
 use Rattle.vm_state.specs.declared.value.Maker.TheVariants.{Class, Thread}
 use Rattle.vm_state.proofs.ListLemmas.{tested}
 use Rattle.vm_state.proofs.PoolLemmas.{equal_turned}
@@ -93,7 +93,7 @@ with_one fields pools c p d = chosen (c == d) where
   chosen true = refl
   chosen false = refl
 
-pub changed_by_class : (s : SharedTables) (b : List ObjectRow) (c : ℕ) (change : Pool → Pool) →
+pub changed_by_class : (s : SharedTables) (b : List HeldObjects) (c : ℕ) (change : Pool → Pool) →
     pool_in b ≡ with_pool (pool_in s.heap.classes) c (change (pool_in s.heap.classes c)) →
     (p : List Print) →
     shared_of (record s { heap = record s.heap { classes = b } }) p
@@ -104,7 +104,7 @@ changed_by_class s b c change is p =
     ap (λ (pools : ℕ → Pool). region (fields_of s.classes d) (pools d)) is
     ∙ with_one (fields_of s.classes) (pool_in s.heap.classes) c (change (pool_in s.heap.classes c)) d))
 
-pub changed_by_thread : (s : SharedTables) (b : List ObjectRow) (t : ℕ) (change : Pool → Pool) →
+pub changed_by_thread : (s : SharedTables) (b : List HeldObjects) (t : ℕ) (change : Pool → Pool) →
     pool_in b ≡ with_pool (pool_in s.heap.threads) t (change (pool_in s.heap.threads t)) →
     (p : List Print) →
     shared_of (record s { heap = record s.heap { threads = b } }) p
@@ -114,7 +114,8 @@ changed_by_thread s b t change is p =
     let regions : ℕ → Region = λ d. region (fields_of s.classes d) (pool_in s.heap.classes d) in
     ap (λ (pools : ℕ → Pool). shared_by (states_of s.classes) regions pools p) is
 
-pub made_none_by_class : (s : SharedTables) (b : List ObjectRow) → pool_in b ≡ pool_in s.heap.classes → (p : List Print)
+pub made_none_by_class : (s : SharedTables) (b : List HeldObjects) → pool_in b ≡ pool_in s.heap.classes →
+    (p : List Print)
     →
     shared_of (record s { heap = record s.heap { classes = b } }) p ≡ shared_of s p
 unfolding shared_of
@@ -134,19 +135,19 @@ region_set fields pools c fs p d = elim (tested (d == c)) [
   | inr e ↦ rw (e, equal_turned c d ∙ e) refl
 ]
 
-abbrev tables : List ClassArea → List ObjectRow → List ObjectRow → SharedTables
-tables classes rows threads = record { classes = classes; heap = record { classes = rows; threads = threads } }
+abbrev tables : List ClassArea → List HeldObjects → List HeldObjects → SharedTables
+tables classes held threads = record { classes = classes; heap = record { classes = held; threads = threads } }
 
-pub shared_of-region : (s : SharedTables) (b : List ClassArea) (rows : List ObjectRow) (c : ℕ) (fs : ℕ → Value)
+pub shared_of-region : (s : SharedTables) (b : List ClassArea) (held : List HeldObjects) (c : ℕ) (fs : ℕ → Value)
     (pool : Pool) → states_of b ≡ states_of s.classes → fields_of b ≡ with_fields (fields_of s.classes) c fs →
-    pool_in rows ≡ with_pool (pool_in s.heap.classes) c pool →
-    (p : List Print) → shared_of (tables b rows s.heap.threads) p ≡ set_region (shared_of s p) c (region fs pool)
+    pool_in held ≡ with_pool (pool_in s.heap.classes) c pool →
+    (p : List Print) → shared_of (tables b held s.heap.threads) p ≡ set_region (shared_of s p) c (region fs pool)
 unfolding shared_of
-shared_of-region s b rows c fs pool states fields pools p =
+shared_of-region s b held c fs pool states fields pools p =
     let threads = pool_in s.heap.threads in
-    ap (λ g. shared_by g (λ d. region (fields_of b d) (pool_in rows d)) threads p) states
+    ap (λ g. shared_by g (λ d. region (fields_of b d) (pool_in held d)) threads p) states
     ∙ ap (λ (g : ℕ → Region). shared_by (states_of s.classes) g threads p) (fun_ext (λ d.
-    ap (λ (f : ℕ → ℕ → Value). region (f d) (pool_in rows d)) fields
+    ap (λ (f : ℕ → ℕ → Value). region (f d) (pool_in held d)) fields
     ∙ (ap (λ (q : ℕ → Pool). region (with_fields (fields_of s.classes) c fs d) (q d)) pools
     ∙ region_set (fields_of s.classes) (pool_in s.heap.classes) c fs pool d)))
 
@@ -156,16 +157,16 @@ pub shared_of-parts : (s : SharedTables) (c : ℕ) (fs : ℕ → Value) (pool : 
 unfolding shared_of
 shared_of-parts s c fs pool fields objects p = rw (fields, objects) refl
 
-pub shared_of-initialized : (s : SharedTables) (b : List ClassArea) (rows : List ObjectRow) (c : ℕ) (fs : ℕ → Value)
+pub shared_of-initialized : (s : SharedTables) (b : List ClassArea) (held : List HeldObjects) (c : ℕ) (fs : ℕ → Value)
     (pool : Pool) → states_of b ≡ with_state (states_of s.classes) c Initialized →
-    fields_of b ≡ with_fields (fields_of s.classes) c fs → pool_in rows ≡ with_pool (pool_in s.heap.classes) c pool →
-    (p : List Print) → shared_of (tables b rows s.heap.threads) p ≡ initialized (shared_of s p) c (region fs pool)
+    fields_of b ≡ with_fields (fields_of s.classes) c fs → pool_in held ≡ with_pool (pool_in s.heap.classes) c pool →
+    (p : List Print) → shared_of (tables b held s.heap.threads) p ≡ initialized (shared_of s p) c (region fs pool)
 unfolding shared_of
-shared_of-initialized s b rows c fs pool states fields pools p =
+shared_of-initialized s b held c fs pool states fields pools p =
     let threads = pool_in s.heap.threads in
-    ap (λ g. shared_by g (λ d. region (fields_of b d) (pool_in rows d)) threads p) states
+    ap (λ g. shared_by g (λ d. region (fields_of b d) (pool_in held d)) threads p) states
     ∙ ap (λ (g : ℕ → Region). shared_by (with_state (states_of s.classes) c Initialized) g threads p) (fun_ext (λ d.
-    ap (λ (f : ℕ → ℕ → Value). region (f d) (pool_in rows d)) fields
+    ap (λ (f : ℕ → ℕ → Value). region (f d) (pool_in held d)) fields
     ∙ (ap (λ (q : ℕ → Pool). region (with_fields (fields_of s.classes) c fs d) (q d)) pools
     ∙ region_set (fields_of s.classes) (pool_in s.heap.classes) c fs pool d)))
 

@@ -1,4 +1,4 @@
--- An object changed: in the row of its maker.
+-- An object changed: in the pool of its maker.
 use Rattle.std.proofs.Common.{◌≡◌, ℕ, zero, suc, ◌≤◌, ◌+◌, Bool, true, false, List, [], ◌∷◌, Option, Some, None}
 use Rattle.std.proofs.Common.{get_or, slice_get, slice_set, refl, sym, subst, ap, ◌∙◌, ◌==◌, eqb-true, if◌then◌else◌}
 use Rattle.std.proofs.Common.{inl, inr, arith}
@@ -7,7 +7,7 @@ use Rattle.std.proofs.Math.Path.{fun_ext}
 use Rattle.std.proofs.lemmas.Option.{get_or_from_slice_get}
 use Rattle.vm_state.specs.declared.value.Value.{Value}
 use Rattle.vm_state.specs.declared.object.Object.{Object}
-use Rattle.vm_state.specs.Objects.{empty_row, or_later, object_in, AscendsFrom}
+use Rattle.vm_state.specs.Objects.{none_held, or_later, object_in, AscendsFrom}
 use Rattle.vm_state.specs.steps.Objects.{object_at_place}
 use Rattle.vm_state.specs.SharedState.{Pool, object_with_slot, with_object, with_slot}
 use Rattle.vm_state.specs.Pools.{pool_by}
@@ -81,7 +81,7 @@ object_in-set low (x ∷ xs) count (suc place) k o new (h, hs) is n =
 abbrev pool : ℕ → (ℕ → Option Object) → Pool
 pool count at = record { count = count; at = at }
 
--- what a row becomes where the object of a number changes
+-- what a pool becomes where the object of a number changes
 abbrev pub IsChanged : ℕ → List (ℕ × Object) → List (ℕ × Object) → ℕ → (Object → Object) → Type 0
 IsChanged count os new k change = AscendsFrom 0 new count
     × (pool_by (record { count = count; objects = new })
@@ -139,7 +139,7 @@ pub first_pool : (p : Pool) (k : ℕ) (a b : Value) →
     with_object p k (option_map (first_changed a b) (p.at k)) ≡ pool_with_first p k a b
 first_pool p k a b = ap (pool p.count) (fun_ext (λ n. first_at p n k a b))
 
-pub nothing_first : (n : ℕ) (a b : Value) → pool_with_first (pool_by empty_row) n a b ≡ pool_by empty_row
+pub nothing_first : (n : ℕ) (a b : Value) → pool_with_first (pool_by none_held) n a b ≡ pool_by none_held
 nothing_first n a b = ap (pool 0) (fun_ext (λ k. elim (tested (k == n)) [
   | inl e ↦
       let same : (n == n) ≡ true = grind arith in

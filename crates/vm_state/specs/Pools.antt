@@ -5,18 +5,18 @@ use Rattle.vm_state.specs.declared.heap.Heap.{Heap}
 use Rattle.vm_state.specs.declared.object.Object.{Object}
 use Rattle.vm_state.specs.declared.value.Maker.{Maker}
 use Rattle.vm_state.specs.declared.value.Maker.TheVariants.{Class, Thread}
-use Rattle.vm_state.specs.Objects.{AscendsFrom, ObjectRow, empty_row, object_in}
+use Rattle.vm_state.specs.Objects.{AscendsFrom, HeldObjects, none_held, object_in}
 use Rattle.vm_state.specs.SharedState.{Pool}
 
-abbrev pub pool_by : ObjectRow → Pool
+abbrev pub pool_by : HeldObjects → Pool
 pool_by r = record { count = r.count; at = object_in r.objects }
 
--- a maker without a row made nothing
-abbrev pub row_at : List ObjectRow → ℕ → ObjectRow
-row_at rows m = slice_index_or rows m empty_row
+-- a maker without a pool made nothing
+abbrev pub held_at : List HeldObjects → ℕ → HeldObjects
+held_at held m = slice_index_or held m none_held
 
-abbrev pub pool_in : List ObjectRow → ℕ → Pool
-pool_in rows m = pool_by (row_at rows m)
+abbrev pub pool_in : List HeldObjects → ℕ → Pool
+pool_in held m = pool_by (held_at held m)
 
 -- one maker's objects changed
 abbrev pub with_pool : (ℕ → Pool) → ℕ → Pool → ℕ → Pool
@@ -32,11 +32,11 @@ pool_at h (Class c) = pool_in h.classes c
 pool_at h (Thread t) = pool_in h.threads t
 
 -- all objects of a pool, each once with its number, in the order of the numbers
-pub record IsRowOf (row : List (ℕ × Object)) (p : Pool) : Type 0 where
-  pub ascending : AscendsFrom 0 row p.count
-  pub all : object_in row ≡ p.at
+pub record IsListOf (held : List (ℕ × Object)) (p : Pool) : Type 0 where
+  pub ascending : AscendsFrom 0 held p.count
+  pub all : object_in held ≡ p.at
 
--- all objects of a pool: a row's, or none
-abbrev pub IsRowBy : Option ObjectRow → Pool → Type 0
-IsRowBy None p = p ≡ pool_by empty_row
-IsRowBy (Some r) p = p ≡ pool_by r
+-- all objects of a pool, or none
+abbrev pub IsPoolBy : Option HeldObjects → Pool → Type 0
+IsPoolBy None p = p ≡ pool_by none_held
+IsPoolBy (Some r) p = p ≡ pool_by r

@@ -11,7 +11,7 @@ use Rattle.vm_state.specs.declared.value.Name.{Name}
 use Rattle.vm_state.specs.declared.value.Value.{Value}
 use Rattle.vm_state.specs.Statics.{states_of, fields_of, field_in, with_constants}
 use Rattle.vm_state.specs.SharedState.{Region, SharedState, made, next_name, set_region, set_state, with_static}
-use Rattle.vm_state.specs.Objects.{ObjectRow, empty_row}
+use Rattle.vm_state.specs.Objects.{HeldObjects, none_held}
 use Rattle.vm_state.specs.Pools.{pool_by, pool_in}
 
 -- the tables and what was printed, as one state
@@ -30,12 +30,12 @@ begun sh c t statics =
     (InProgress t)
 
 -- the region of these static fields and objects
-abbrev pub region_by : List Value → ObjectRow → Region
-region_by fields row = record { fields = field_in fields; pool = pool_by row }
+abbrev pub region_by : List Value → HeldObjects → Region
+region_by fields held = record { fields = field_in fields; pool = pool_by held }
 
 -- no field was set and no object made
 abbrev pub empty_region : Region
-empty_region = region_by [] empty_row
+empty_region = region_by [] none_held
 
 -- a class is initialized, with this region
 abbrev pub initialized : SharedState → ℕ → Region → SharedState
@@ -60,10 +60,10 @@ abbrev pub Begins : SharedTables → SharedTables → ℕ → ℕ → List Stati
 Begins old new c t statics = (p : List Print) → shared_of new p ≡ begun (shared_of old p) c t statics
 
 -- a class is initialized, with these static fields and objects
-abbrev pub Initializes : SharedTables → SharedTables → ℕ → List Value → ObjectRow → Type 0
-Initializes old new c fields row =
+abbrev pub Initializes : SharedTables → SharedTables → ℕ → List Value → HeldObjects → Type 0
+Initializes old new c fields held =
     (p : List Print) → shared_of new p
-    ≡ initialized (shared_of old p) c (region_by fields row)
+    ≡ initialized (shared_of old p) c (region_by fields held)
 
 -- a maker has one more object
 abbrev pub Makes : SharedTables → SharedTables → Maker → ClassId → List Value → Type 0

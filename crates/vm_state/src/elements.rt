@@ -115,7 +115,7 @@ fn few_of(values: &[Value]) -> Option<Few>
 }
 
 /// What stands for some values, in fewer bytes.
-pub(crate) trait Element: Copy {
+pub(crate) trait Packed: Copy {
     // The value that it stands for.
     ghost value_of: { Self → Held };
 
@@ -132,7 +132,7 @@ pub(crate) trait Element: Copy {
         ensures { IfOk result (λ v. v.items ≡ replicate count self) };
 }
 
-impl Element for i8 {
+impl Packed for i8 {
     ghost value_of = { Int };
 
     #[inline(always)]
@@ -153,7 +153,7 @@ impl Element for i8 {
     }
 }
 
-impl Element for u16 {
+impl Packed for u16 {
     ghost value_of = { char_value };
 
     #[inline(always)]
@@ -174,7 +174,7 @@ impl Element for u16 {
     }
 }
 
-impl Element for i16 {
+impl Packed for i16 {
     ghost value_of = { Int };
 
     #[inline(always)]
@@ -195,7 +195,7 @@ impl Element for i16 {
     }
 }
 
-impl Element for i32 {
+impl Packed for i32 {
     ghost value_of = { Int };
 
     #[inline(always)]
@@ -216,7 +216,7 @@ impl Element for i32 {
     }
 }
 
-impl Element for i64 {
+impl Packed for i64 {
     ghost value_of = { Long };
 
     #[inline(always)]
@@ -248,7 +248,7 @@ fn brief_name(maker: u32, number: u64) -> Option<(u16, u32)>
     }
 }
 
-impl Element for Brief {
+impl Packed for Brief {
     ghost value_of = { brief_value };
 
     #[inline(always)]
@@ -295,7 +295,7 @@ impl Element for Brief {
 
 /// The value at a slot.
 #[inline(always)]
-pub(crate) fn value_at<E: Element>(elements: &[E], slot: usize) -> Option<Value>
+pub(crate) fn value_at<E: Packed>(elements: &[E], slot: usize) -> Option<Value>
     ensures { result ≡ slice_get (map E.value_of elements.now) slot }
 {
     match elements.get(slot) {
@@ -306,7 +306,7 @@ pub(crate) fn value_at<E: Element>(elements: &[E], slot: usize) -> Option<Value>
 
 /// Puts a value into a slot, and says so; not where nothing stands for it. Where there is no such slot nothing changes.
 #[inline(always)]
-pub(crate) fn put_narrow<E: Element>(elements: &mut Vec<E>, slot: usize, value: Value) -> bool
+pub(crate) fn put_narrow<E: Packed>(elements: &mut Vec<E>, slot: usize, value: Value) -> bool
     ensures yes { result ≡ true
         → map E.value_of elements.new.items ≡ slice_set (map E.value_of elements.old.items) slot value }
     ensures no { result ≡ false → elements.new ≡ elements.old }
@@ -331,7 +331,7 @@ pub(crate) fn put_element<E: Copy>(elements: &mut Vec<E>, slot: usize, element: 
 }
 
 /// Adds what stands for a value at the end, and says so; not where nothing does.
-fn push_narrow<E: Element>(elements: &mut Vec<E>, value: Value) -> Result<bool, AllocError>
+fn push_narrow<E: Packed>(elements: &mut Vec<E>, value: Value) -> Result<bool, AllocError>
     ensures yes { result ≡ Ok true
         → map E.value_of elements.new.items ≡ map E.value_of elements.old.items ++ value ∷ [] }
     ensures no { result ≡ Ok false → elements.new ≡ elements.old }
@@ -347,7 +347,7 @@ fn push_narrow<E: Element>(elements: &mut Vec<E>, value: Value) -> Result<bool, 
 }
 
 /// The values that elements stand for.
-fn widened<E: Element>(alloc: Global, elements: &[E]) -> Result<Vec<Value>, AllocError>
+fn widened<E: Packed>(alloc: Global, elements: &[E]) -> Result<Vec<Value>, AllocError>
     ensures { IfOk result (λ values. values.items ≡ map E.value_of elements.now) }
 {
     let mut values = Vec::with_capacity(alloc, elements.len())?;
@@ -358,7 +358,7 @@ fn widened<E: Element>(alloc: Global, elements: &[E]) -> Result<Vec<Value>, Allo
 }
 
 /// What stands for this value, `count` times; none where nothing does.
-fn filled_narrow<E: Element>(
+fn filled_narrow<E: Packed>(
     alloc: Global,
     value: Value,
     count: usize,
@@ -372,7 +372,7 @@ fn filled_narrow<E: Element>(
 }
 
 /// What stands for these values; none where nothing does for one of them.
-fn narrowed<E: Element>(alloc: Global, values: &[Value]) -> Result<Option<Vec<E>>, AllocError>
+fn narrowed<E: Packed>(alloc: Global, values: &[Value]) -> Result<Option<Vec<E>>, AllocError>
     ensures { IfOk result (λ r. IfSome r (λ v. map E.value_of v.items ≡ values.now)) }
 {
     let mut elements = Vec::with_capacity(alloc, values.len())?;

@@ -3,14 +3,14 @@
 ghost use Rattle.std.specs.Prelude.{◌≡◌, ℕ, ◌∷◌, [], ◌++◌, ◌<◌, ◌≤◌, ◌^◌, ◌+◌, length, get_or, slice_get, IfOk};
 ghost use Rattle.std.specs.Prelude.{OnOk, OnErr, IfSome, IfNone, IsSome, Some, None, option_copied, option_map};
 ghost use Rattle.std.specs.List.Sorted.{IsNonDecreasingBy};
-ghost use Rattle.vm_state.specs.Objects.{AscendsFrom, empty_row, row_of, object_in, kept_of, numbered_kept};
+ghost use Rattle.vm_state.specs.Objects.{AscendsFrom, none_held, one_held, object_in, kept_of, numbered_kept};
 ghost use Rattle.vm_state.specs.steps.Objects.{with_next, with_monitor_in, object_at_place, numbers_of, objects_of};
 ghost use Rattle.vm_state.specs.steps.Objects.{IsKept};
 ghost use Rattle.vm_state.specs.SharedState.{class_at, form_at, monitor_of, slots_at, with_new, with_slot};
 ghost use Rattle.vm_state.specs.SharedState.{with_monitor};
 ghost use Rattle.vm_state.specs.steps.ClassWords.{expected_class};
 ghost use Rattle.vm_state.specs.declared.kept.Kept.{Kept as HeldObject};
-ghost use Rattle.vm_state.specs.Pools.{IsRowBy, IsRowOf, pool_at, pool_by, pool_in, with_pool};
+ghost use Rattle.vm_state.specs.Pools.{IsPoolBy, IsListOf, pool_at, pool_by, pool_in, with_pool};
 
 use crate::items::copy_items;
 use crate::kept::{Expected, Kept, KeptClass};
@@ -26,21 +26,21 @@ use std::mem;
 /// The objects of one maker, in the order of their numbers; and how many objects it made. Numbers may be left out:
 /// those of the first objects are 0, 1, 2 and so on, the others stand beside.
 #[derive(Drop)]
-pub struct Row {
+pub struct Pool {
     count: u64,
     later: Vec<u64>,
     kept: Vec<Kept>,
     owners: Owners,
 }
 
-impl Model for Row {
+impl Model for Pool {
     ghost use Rattle.std.specs.Prelude.{◌≡◌, ℕ, ◌≤◌, length};
     ghost use Rattle.vm_state.specs.declared.object.Monitor.TheVariants.{Free};
-    ghost use Rattle.vm_state.specs.Objects.{ObjectRow, AscendsFrom};
+    ghost use Rattle.vm_state.specs.Objects.{HeldObjects, AscendsFrom};
     ghost use Rattle.vm_state.specs.steps.Objects.{numbers_in, objects_of};
     ghost use Rattle.vm_state.specs.steps.Owners.{monitor_in};
 
-    ghost Value = { ObjectRow };
+    ghost Value = { HeldObjects };
 
     ghost view = { λ s. record {
       count = s.count;
@@ -193,32 +193,32 @@ fn add_objects(
     Ok(())
 }
 
-/// Puts objects with their numbers into a row that holds none.
-fn put_objects(row: &mut Row, objects: Vec<(u64, Object)>) -> Result<(), AllocError>
-    requires none { row.old.objects ≡ [] }
-    requires ascending { AscendsFrom 0 objects.items row.old.count }
-    ensures { OnOk result (row.new ≡ record { count = row.old.count; objects = objects.items }) }
+/// Puts objects with their numbers into a pool that holds none.
+fn put_objects(pool: &mut Pool, objects: Vec<(u64, Object)>) -> Result<(), AllocError>
+    requires none { pool.old.objects ≡ [] }
+    requires ascending { AscendsFrom 0 objects.items pool.old.count }
+    ensures { OnOk result (pool.new ≡ record { count = pool.old.count; objects = objects.items }) }
 {
     for held in objects {
         let (number, object) = held;
-        row.put(number, object)?;
+        pool.put(number, object)?;
     }
     Ok(())
 }
 
-impl Row {
-    /// The row of a maker that made nothing.
-    pub fn new(alloc: Global) -> Row
-        ensures { result ≡ empty_row }
+impl Pool {
+    /// The pool of a maker that made nothing.
+    pub fn new(alloc: Global) -> Pool
+        ensures { result ≡ none_held }
     {
-        Row::of_none(alloc, 0)
+        Pool::of_none(alloc, 0)
     }
 
-    /// The row of a maker that made `count` objects, of which none is held.
-    fn of_none(alloc: Global, count: u64) -> Row
+    /// The pool of a maker that made `count` objects, of which none is held.
+    fn of_none(alloc: Global, count: u64) -> Pool
         ensures { result ≡ record { count = count; objects = [] } }
     {
-        Row {
+        Pool {
             count,
             later: Vec::new(alloc),
             kept: Vec::new(alloc),
@@ -226,18 +226,18 @@ impl Row {
         }
     }
 
-    /// A copy of the row.
+    /// A copy of the pool.
     ///
     /// # Errors
     /// `AllocError` where memory is refused.
-    pub fn copy(&self, alloc: Global) -> Result<Row, AllocError>
+    pub fn copy(&self, alloc: Global) -> Result<Pool, AllocError>
         ensures { IfOk result (λ r. r ≡ self.now) }
     {
         let mut kept = Vec::with_capacity(alloc, self.kept.len())?;
         copy_items(alloc, self.kept.as_slice(), &mut kept)?;
         let later = Vec::from_slice(alloc, self.later.as_slice())?;
         let owners = self.owners.copy(alloc)?;
-        Ok(Row {
+        Ok(Pool {
             count: self.count,
             later,
             kept,
@@ -252,7 +252,7 @@ impl Row {
         self.count
     }
 
-    /// The row of a maker that made `count` objects, of which these are held.
+    /// The pool of a maker that made `count` objects, of which these are held.
     ///
     /// # Errors
     /// `AllocError` where memory is refused.
@@ -260,13 +260,13 @@ impl Row {
         alloc: Global,
         count: u64,
         objects: Vec<(u64, Object)>,
-    ) -> Result<Row, AllocError>
+    ) -> Result<Pool, AllocError>
         requires { AscendsFrom 0 objects.items count }
         ensures { IfOk result (λ r. r ≡ record { count = count; objects = objects.items }) }
     {
-        let mut row = Row::of_none(alloc, count);
-        match put_objects(&mut row, objects) {
-            Ok(()) => Ok(row),
+        let mut pool = Pool::of_none(alloc, count);
+        match put_objects(&mut pool, objects) {
+            Ok(()) => Ok(pool),
             Err(error) => Err(error),
         }
     }
@@ -279,7 +279,7 @@ impl Row {
         ensures parts { IfOk result (λ r. (r.0 ≡ self.count) × (r.1.items ≡ self.objects)) }
         ensures ascending { IfOk result (λ r. AscendsFrom 0 r.1.items r.0) }
     {
-        let Row {
+        let Pool {
             count,
             later,
             kept,
@@ -297,7 +297,7 @@ impl Row {
     pub fn len(&self) -> usize
         ensures all { result ≡ length self.now.objects }
         ensures ascending { AscendsFrom 0 self.now.objects self.now.count }
-        ensures row { IsRowOf self.now.objects (pool_by self.now) }
+        ensures pool { IsListOf self.now.objects (pool_by self.now) }
     {
         self.kept.len()
     }
@@ -334,7 +334,7 @@ impl Row {
         }
     }
 
-    /// The place of the object of a number, found by halving the row.
+    /// The place of the object of a number, found by halving the pool.
     #[inline(never)]
     fn searched_place(&self, number: u64) -> Option<usize>
         ensures held { IfSome result (λ place. IsSome (object_at_place self.now.objects place number)) }
@@ -396,7 +396,7 @@ impl Row {
         self.set_slot_as(number, Packing::Briefs, slot, value)
     }
 
-    /// As [`set_slot`](Row::set_slot), quick where the object's slots are held as expected.
+    /// As [`set_slot`](Pool::set_slot), quick where the object's slots are held as expected.
     ///
     /// # Errors
     /// `AllocError` where memory is refused; nothing has changed then.
@@ -529,50 +529,50 @@ impl Row {
     }
 }
 
-/// The rows of some makers, by their numbers. A maker without a row made nothing.
+/// The pools of some makers, by their numbers. A maker without a pool made nothing.
 #[derive(Drop)]
-pub struct Rows {
-    rows: Vec<Row>,
+pub struct Pools {
+    pools: Vec<Pool>,
 }
 
-impl Model for Rows {
+impl Model for Pools {
     ghost use Rattle.std.specs.Prelude.{List};
-    ghost use Rattle.vm_state.specs.Objects.{ObjectRow};
+    ghost use Rattle.vm_state.specs.Objects.{HeldObjects};
 
-    ghost Value = { List ObjectRow };
+    ghost Value = { List HeldObjects };
 
-    ghost view = { λ s. s.rows.items };
+    ghost view = { λ s. s.pools.items };
 }
 
-impl Rows {
-    /// No row.
-    pub fn none(alloc: Global) -> Rows
+impl Pools {
+    /// No pool.
+    pub fn none(alloc: Global) -> Pools
         ensures { result ≡ [] }
     {
-        Rows {
-            rows: Vec::new(alloc),
+        Pools {
+            pools: Vec::new(alloc),
         }
     }
 
     /// One more maker, with its first object. Where memory is refused nothing changes.
     fn add_maker(&mut self, alloc: Global, first: Object) -> Result<(), AllocError>
-        ensures ok { OnOk result (self.new ≡ self.old ++ row_of first ∷ []) }
+        ensures ok { OnOk result (self.new ≡ self.old ++ one_held first ∷ []) }
         ensures err { OnErr result (self.new ≡ self.old) }
     {
-        let mut row = Row::of_none(alloc, 1);
-        row.put(0, first)?;
-        self.rows.push(row)?;
+        let mut pool = Pool::of_none(alloc, 1);
+        pool.put(0, first)?;
+        self.pools.push(pool)?;
         Ok(())
     }
 
-    /// Keeps a place for a maker's row; no maker's objects change.
+    /// Keeps a place for a maker's pool; no maker's objects change.
     fn reach(&mut self, alloc: Global, maker: usize) -> Result<(), AllocError>
         requires { maker < 2 ^ 32 }
         ensures pools { pool_in self.new ≡ pool_in self.old }
         ensures ok { OnOk result (maker < length self.new) }
     {
-        while self.rows.len() <= maker {
-            self.rows.push(Row::new(alloc))?;
+        while self.pools.len() <= maker {
+            self.pools.push(Pool::new(alloc))?;
         }
         Ok(())
     }
@@ -582,8 +582,8 @@ impl Rows {
     pub fn object(&self, maker: u32, number: u64) -> Option<&Kept>
         ensures { option_copied result ≡ option_map kept_of ((pool_in self.now maker).at number) }
     {
-        match self.rows.get(maker as usize) {
-            Some(row) => row.object(number),
+        match self.pools.get(maker as usize) {
+            Some(pool) => pool.object(number),
             None => None,
         }
     }
@@ -592,17 +592,17 @@ impl Rows {
     pub fn monitor(&self, maker: u32, number: u64) -> Monitor
         ensures { result ≡ monitor_of ((pool_in self.now maker).at number) }
     {
-        match self.rows.get(maker as usize) {
-            Some(row) => row.monitor(number),
+        match self.pools.get(maker as usize) {
+            Some(pool) => pool.monitor(number),
             None => Monitor::Free,
         }
     }
 
     /// The objects of a maker; none where it made none.
-    fn row(&self, maker: u32) -> Option<&Row>
-        ensures { IsRowBy (option_copied result) (pool_in self.now maker) }
+    fn pool(&self, maker: u32) -> Option<&Pool>
+        ensures { IsPoolBy (option_copied result) (pool_in self.now maker) }
     {
-        self.rows.get(maker as usize)
+        self.pools.get(maker as usize)
     }
 
     /// Puts a value into a slot of the object of a maker and a number, quick where its slots are held as expected.
@@ -623,8 +623,8 @@ impl Rows {
             ≡ with_pool (pool_in self.old) maker (with_slot (pool_in self.old maker) number slot value)) }
         ensures err { OnErr result (self.new ≡ self.old) }
     {
-        match self.rows.get_mut(maker as usize) {
-            Some(row) => row.set_slot_as(number, expected, slot, value),
+        match self.pools.get_mut(maker as usize) {
+            Some(pool) => pool.set_slot_as(number, expected, slot, value),
             None => Ok(()),
         }
     }
@@ -648,8 +648,8 @@ impl Rows {
             ≡ with_pool (pool_in self.old) maker (with_slot (pool_in self.old maker) number slot value)) }
         ensures none { IfNone result (self.new ≡ self.old) }
     {
-        match self.rows.get_mut(maker as usize) {
-            Some(row) => row.put_within(number, expected, packing, slot, value),
+        match self.pools.get_mut(maker as usize) {
+            Some(pool) => pool.put_within(number, expected, packing, slot, value),
             None => None,
         }
     }
@@ -670,11 +670,11 @@ impl Rows {
             (with_slot (with_slot (pool_in self.old maker) number 0 first) number 1 second)) }
         ensures err { OnErr result (self.new ≡ self.old) }
     {
-        if maker as usize >= self.rows.len() {
+        if maker as usize >= self.pools.len() {
             return Ok(());
         }
-        let row = &mut self.rows[maker as usize];
-        row.set_first(number, first, second)
+        let pool = &mut self.pools[maker as usize];
+        pool.set_first(number, first, second)
     }
 
     /// Sets the monitor of the object of a maker and a number. Where it is not held nothing changes.
@@ -691,36 +691,36 @@ impl Rows {
             ≡ with_pool (pool_in self.old) maker (with_monitor (pool_in self.old maker) number monitor)) }
         ensures err { OnErr result (self.new ≡ self.old) }
     {
-        match self.rows.get_mut(maker as usize) {
-            Some(row) => row.set_monitor(number, monitor),
+        match self.pools.get_mut(maker as usize) {
+            Some(pool) => pool.set_monitor(number, monitor),
             None => Ok(()),
         }
     }
 
-    /// Puts a whole row, of the objects of a maker and how many it made, in place of the one that it had.
+    /// Puts a whole pool, of the objects of a maker and how many it made, in place of the one that it had.
     ///
     /// # Errors
     /// `AllocError` where memory is refused; nothing has changed then.
-    pub fn put(&mut self, alloc: Global, maker: u32, row: Row) -> Result<(), AllocError>
-        ensures ok { OnOk result (pool_in self.new ≡ with_pool (pool_in self.old) maker (pool_by row)) }
+    pub fn put(&mut self, alloc: Global, maker: u32, pool: Pool) -> Result<(), AllocError>
+        ensures ok { OnOk result (pool_in self.new ≡ with_pool (pool_in self.old) maker (pool_by pool)) }
         ensures err { OnErr result (pool_in self.new ≡ pool_in self.old) }
     {
         self.reach(alloc, maker as usize)?;
-        self.rows[maker as usize] = row;
+        self.pools[maker as usize] = pool;
         Ok(())
     }
 
-    /// Takes the row of a maker out, which has made nothing then.
-    pub fn take(&mut self, alloc: Global, maker: u32) -> Row
+    /// Takes the pool of a maker out, which has made nothing then.
+    pub fn take(&mut self, alloc: Global, maker: u32) -> Pool
         ensures taken { pool_by result ≡ pool_in self.old maker }
-        ensures left { pool_in self.new ≡ with_pool (pool_in self.old) maker (pool_by empty_row) }
+        ensures left { pool_in self.new ≡ with_pool (pool_in self.old) maker (pool_by none_held) }
     {
-        let none = Row::new(alloc);
-        if maker as usize >= self.rows.len() {
+        let none = Pool::new(alloc);
+        if maker as usize >= self.pools.len() {
             return none;
         }
-        let row = &mut self.rows[maker as usize];
-        mem::replace(row, none)
+        let pool = &mut self.pools[maker as usize];
+        mem::replace(pool, none)
     }
 
     /// One more object of a maker, and its number.
@@ -740,8 +740,8 @@ impl Rows {
         ensures err { OnErr result (pool_in self.new ≡ pool_in self.old) }
     {
         self.reach(alloc, maker as usize)?;
-        let row = &mut self.rows[maker as usize];
-        let number = row.add(class, slots)?;
+        let pool = &mut self.pools[maker as usize];
+        let number = pool.add(class, slots)?;
         Ok(number)
     }
 }
@@ -749,8 +749,8 @@ impl Rows {
 /// The objects of all makers: of classes and of threads.
 #[derive(Drop)]
 pub struct Heap {
-    pub(crate) classes: Rows,
-    pub(crate) threads: Rows,
+    pub(crate) classes: Pools,
+    pub(crate) threads: Pools,
 }
 
 impl Heap {
@@ -759,18 +759,18 @@ impl Heap {
         ensures { result ≡ record { classes = []; threads = [] } }
     {
         Heap {
-            classes: Rows::none(alloc),
-            threads: Rows::none(alloc),
+            classes: Pools::none(alloc),
+            threads: Pools::none(alloc),
         }
     }
 
     /// The objects of a maker; none where it made none. Takes no memory.
-    pub fn row(&self, maker: Maker) -> Option<&Row>
-        ensures { IsRowBy (option_copied result) (pool_at self.now maker) }
+    pub fn pool(&self, maker: Maker) -> Option<&Pool>
+        ensures { IsPoolBy (option_copied result) (pool_at self.now maker) }
     {
         match maker {
-            Maker::Class(class) => self.classes.row(class),
-            Maker::Thread(thread) => self.threads.row(thread),
+            Maker::Class(class) => self.classes.pool(class),
+            Maker::Thread(thread) => self.threads.pool(thread),
         }
     }
 
@@ -779,7 +779,7 @@ impl Heap {
     /// # Errors
     /// `AllocError` where memory is refused; nothing has changed then.
     pub fn add_thread(&mut self, alloc: Global, first: Object) -> Result<(), AllocError>
-        ensures ok { OnOk result (self.new ≡ record self.old { threads = self.old.threads ++ row_of first ∷ [] }) }
+        ensures ok { OnOk result (self.new ≡ record self.old { threads = self.old.threads ++ one_held first ∷ [] }) }
         ensures err { OnErr result (self.new ≡ self.old) }
     {
         self.threads.add_maker(alloc, first)

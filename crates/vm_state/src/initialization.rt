@@ -16,11 +16,11 @@ use std::mem;
 
 /// The superclass and superinterfaces that are still to be initialized before a class, in order.
 #[derive(Drop)]
-pub struct Parents {
+pub struct ParentsLeft {
     reversed: Vec<u32>,
 }
 
-impl Model for Parents {
+impl Model for ParentsLeft {
     ghost use Rattle.std.specs.Prelude.{List, ℕ, reverse};
 
     ghost Value = { List ℕ };
@@ -41,9 +41,9 @@ fn same_pending(left: Option<Name>, right: Option<Name>) -> bool
     }
 }
 
-impl Parents {
+impl ParentsLeft {
     /// Whether these are the same.
-    pub fn is_same(&self, other: &Parents) -> bool
+    pub fn is_same(&self, other: &ParentsLeft) -> bool
         ensures yes { result ≡ true → self.now ≡ other.now }
         ensures no { result ≡ false → self.now ≢ other.now }
     {
@@ -54,23 +54,23 @@ impl Parents {
     ///
     /// # Errors
     /// `AllocError` where memory is refused.
-    pub fn copy(&self, alloc: Global) -> Result<Parents, AllocError>
+    pub fn copy(&self, alloc: Global) -> Result<ParentsLeft, AllocError>
         ensures { IfOk result (λ p. p ≡ self.now) }
     {
         let reversed = Vec::from_slice(alloc, self.reversed.as_slice())?;
-        Ok(Parents { reversed })
+        Ok(ParentsLeft { reversed })
     }
 
     /// These classes, in this order.
     ///
     /// # Errors
     /// `AllocError` where memory is refused.
-    pub fn of(alloc: Global, classes: &[u32]) -> Result<Parents, AllocError>
+    pub fn of(alloc: Global, classes: &[u32]) -> Result<ParentsLeft, AllocError>
         ensures { IfOk result (λ s. s ≡ classes.now) }
     {
         let mut reversed = Vec::from_slice(alloc, classes)?;
         reversed.reverse();
-        Ok(Parents { reversed })
+        Ok(ParentsLeft { reversed })
     }
 
     /// The next one, which stays.
@@ -93,7 +93,7 @@ impl Parents {
 pub struct Initialization {
     pub class: u32,
     /// What is still to be initialized before it.
-    pub left: Parents,
+    pub left: ParentsLeft,
     /// Whether its class initialization method has begun.
     pub begun: bool,
     /// The exception that came out of it.

@@ -1,4 +1,4 @@
-//! Objects as rows keep them: without number and monitor, their classes in 8 bytes.
+//! Objects as pools keep them: without number and monitor, their classes in 8 bytes.
 
 ghost use Rattle.std.specs.Prelude.{◌≡◌, IfOk, true};
 ghost use Rattle.built_in.specs.declared.class_id.ClassId.TheVariants.{Given};

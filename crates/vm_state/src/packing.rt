@@ -5,7 +5,7 @@ ghost use Rattle.std.specs.Prelude.{Some, ◌<◌, ◌^◌};
 ghost use Rattle.vm_state.specs.declared.value.Value.TheVariants.{Int, Long};
 ghost use Rattle.vm_state.specs.steps.Elements.{values_of, brief_value, char_value};
 
-use crate::elements::{Brief, Element, Elements, Few, put_element, put_few, put_narrow, value_at};
+use crate::elements::{Brief, Elements, Few, Packed, put_element, put_few, put_narrow, value_at};
 use crate::value::Value;
 use std::alloc::AllocError;
 
@@ -38,7 +38,7 @@ fn counted_value(values: &[Value], slot: usize) -> Option<(usize, Value)>
 
 /// Puts a value into a slot, where there is one and it fits, and says how many there are: not more than an int can say.
 #[inline(always)]
-fn put_counted<E: Element>(elements: &mut Vec<E>, slot: usize, value: Value) -> Option<usize>
+fn put_counted<E: Packed>(elements: &mut Vec<E>, slot: usize, value: Value) -> Option<usize>
     ensures slot { IfSome result (λ n. (slot < n) × (n < 2 ^ 31)) }
     ensures count { IfSome result (λ n. n ≡ length (map E.value_of elements.old.items)) }
     ensures some { IfSome result
@@ -106,12 +106,17 @@ impl Elements {
         ensures count { IfSome result (λ r. r.0 ≡ length (values_of self.now)) }
         ensures value { IfSome result (λ r. slice_get (values_of self.now) slot ≡ Some r.1) }
     {
-        match self {
-            Elements::Few(few, _) => counted_at(few.as_slice(), slot),
-            Elements::Briefs(briefs) => counted_at(briefs.as_slice(), slot),
-            Elements::Values(values) => counted_value(values.as_slice(), slot),
-            _ => None,
+        // One after another: a `match` on so many kinds becomes a table of jumps.
+        if let Elements::Few(few, _) = self {
+            return counted_at(few.as_slice(), slot);
         }
+        if let Elements::Briefs(briefs) = self {
+            return counted_at(briefs.as_slice(), slot);
+        }
+        if let Elements::Values(values) = self {
+            return counted_value(values.as_slice(), slot);
+        }
+        None
     }
 
     /// Puts a value into a slot, and says so; not where they are held as numbers of one type, or it does not fit. Where
@@ -243,12 +248,16 @@ impl Elements {
         ensures some { IfSome result (λ n. values_of self.new ≡ slice_set (values_of self.old) slot value) }
         ensures none { IfNone result (self.new ≡ self.old) }
     {
-        match self {
-            Elements::Few(few, _) => put_few_counted(few, slot, value),
-            Elements::Briefs(briefs) => put_counted(briefs, slot, value),
-            Elements::Values(values) => put_value(values, slot, value),
-            _ => None,
+        if let Elements::Few(few, _) = self {
+            return put_few_counted(few, slot, value);
         }
+        if let Elements::Briefs(briefs) = self {
+            return put_counted(briefs, slot, value);
+        }
+        if let Elements::Values(values) = self {
+            return put_value(values, slot, value);
+        }
+        None
     }
 
     /// Puts a value into a slot, and says how many there are; not where they are held otherwise, where there is no such

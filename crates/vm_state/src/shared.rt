@@ -9,12 +9,12 @@ ghost use Rattle.vm_state.specs.steps.ClassWords.{expected_class};
 ghost use Rattle.vm_state.specs.Statics.{IsPlaced};
 ghost use Rattle.vm_state.specs.Shares.{shared_of, SharesTheSame, SetsField, SetsState, Begins, Makes, IsNextName};
 ghost use Rattle.vm_state.specs.Shares.{Initializes, region_by, empty_region};
-ghost use Rattle.vm_state.specs.Pools.{IsRowBy};
+ghost use Rattle.vm_state.specs.Pools.{IsPoolBy};
 ghost use Rattle.vm_state.specs.Objects.{kept_of};
 ghost use Rattle.vm_state.specs.declared.kept.Kept.{Kept as HeldObject};
 
 use crate::classes::{ClassState, Classes, Fields, NoPlace, StaticField};
-use crate::heap::{Heap, Row};
+use crate::heap::{Heap, Pool};
 use crate::kept::{Expected, Kept};
 use crate::object::{Monitor, Slots};
 use crate::packing::Packing;
@@ -154,7 +154,7 @@ impl Shared {
         alloc: Global,
         class: u32,
         fields: Fields,
-        objects: Row,
+        objects: Pool,
     ) -> Result<(), AllocError>
         ensures ok { OnOk result (Initializes self.old self.new class fields objects) }
         ensures err { OnErr result (SharesTheSame self.old self.new) }
@@ -166,7 +166,7 @@ impl Shared {
     }
 
     /// Takes the static fields and the objects of a class out. It has none of them then; its state stays.
-    pub fn take(&mut self, alloc: Global, class: u32) -> (Fields, Row)
+    pub fn take(&mut self, alloc: Global, class: u32) -> (Fields, Pool)
         ensures taken { (p : List Print) → region_by result.0 result.1 ≡ (shared_of self.old p).regions class }
         ensures left { (p : List Print) → shared_of self.new p ≡ set_region (shared_of self.old p) class empty_region }
     {
@@ -203,10 +203,10 @@ impl Shared {
 
     /// The objects of a maker; none where it made none.
     #[tactic(auto, unfolding(crate::specs::Shares::shared_of))]
-    pub fn row(&self, maker: Maker) -> Option<&Row>
-        ensures { (p : List Print) → IsRowBy (option_copied result) (pool_of (shared_of self.now p) maker) }
+    pub fn pool(&self, maker: Maker) -> Option<&Pool>
+        ensures { (p : List Print) → IsPoolBy (option_copied result) (pool_of (shared_of self.now p) maker) }
     {
-        self.heap.row(maker)
+        self.heap.pool(maker)
     }
 
     /// The class of the object of a name, if it is held.

@@ -19,7 +19,7 @@ use Rattle.wave_scheduler.specs.steps.Judged.{FollowVerdicts}
 use Rattle.wave_scheduler.specs.steps.Waves.{AreTriedBelow}
 use Rattle.wave_scheduler.specs.steps.WaveRows.{AreRows}
 use Rattle.wave_scheduler.specs.steps.Finding.{HasRun, IsFoundOf}
-use Rattle.wave_scheduler.specs.steps.Plans.{TellsFirst}
+use Rattle.wave_scheduler.specs.steps.Plans.{GivesFirst}
 use Rattle.wave_scheduler.proofs.FindingLemmas.{region_seen}
 use Rattle.wave_scheduler.proofs.SettledLemmas.{from_below}
 use Rattle.wave_scheduler.proofs.TriesLemmas.{waves_end_lem}
@@ -42,7 +42,7 @@ run_by P env budget n c (found.Refused why) o held stops (so, none) = rw none (r
 -- once all waves are tried and each class is told what it depends on, all follows the verdicts
 pub all_follow : (P : Tables) (budget : ℕ) (judged : List Verdict) (rows : List (Vec ℕ Global)) (old new : Settled)
     → AreJudged P judged → AreRows judged (rows_of rows) → AreTriedBelow P budget judged (length rows) old
-    → TellsFirst P old new → FollowVerdicts P budget judged new
+    → GivesFirst P old new → FollowVerdicts P budget judged new
 all_follow P budget judged rows old new (forced, are) rows_are tried (first, (marks, refused, firsts), told) =
     let below : AreTriedBelow P budget judged (length (rows_of rows)) old =
     subst (λ (n : ℕ). AreTriedBelow P budget judged n old) (sym (length-rows_of rows)) tried in

@@ -18,7 +18,7 @@ use Rattle.wave_scheduler.specs.Outcomes.{outcome_of}
 use Rattle.wave_scheduler.specs.steps.Waves.{StartsFrom}
 use Rattle.wave_scheduler.specs.steps.Waves.{AreRefusedIn, dependent}
 use Rattle.wave_scheduler.specs.steps.Finding.{SetsClass}
-use Rattle.wave_scheduler.specs.steps.Finding.{is_refused, TellsBelow}
+use Rattle.wave_scheduler.specs.steps.Finding.{is_refused, GivesFirstBelow}
 use Rattle.initializer_analysis.proofs.ReachesLemmas.{one_of}
 use Rattle.wave_scheduler.proofs.SpreadingLemmas.{less_or_same}
 
@@ -119,9 +119,9 @@ marks_are P outs rs marks count are = rw are record {
 -- ---- at the end
 
 pub tells_more : (first : List (Option ℕ)) (limit : ℕ) (old : List Outcome) (cur more : List Verdict) (o x d : Verdict)
-    → limit < length cur → x ≡ slice_index_or cur limit d → TellsBelow first limit old (map outcome_of cur)
+    → limit < length cur → x ≡ slice_index_or cur limit d → GivesFirstBelow first limit old (map outcome_of cur)
     → outcome_of o ≡ dependent (slice_index_or first limit None) (outcome_of x) → more ≡ slice_set cur limit o
-    → TellsBelow first (limit + 1) old (map outcome_of more)
+    → GivesFirstBelow first (limit + 1) old (map outcome_of more)
 tells_more first limit old cur more o x d low was tells told is = rw (is, map-set outcome_of cur limit o) record {
   count = length-set (map outcome_of cur) limit (outcome_of o) ∙ tells.count;
   each = λ c y small at. elim (less_or_same c limit small) [

@@ -27,7 +27,7 @@ use Rattle.wave_scheduler.specs.Settled.{Outcome, Wave, Settled, IsAccepted, reg
 use Rattle.wave_scheduler.specs.steps.Judged.{UsesAccepted}
 use Rattle.wave_scheduler.specs.steps.Waves.{IsTriedIn, AreTriedBelow, TriesWave, Decides}
 use Rattle.wave_scheduler.specs.steps.Finding.{IsFound, SetsClass, TriesThese}
-use Rattle.wave_scheduler.specs.steps.Tainting.{vertex_in, IsSeen, IsTold, TriesClass, AreTainted}
+use Rattle.wave_scheduler.specs.steps.Tainting.{vertex_in, IsSeen, IsTaint, TriesClass, AreTainted}
 use Rattle.wave_scheduler.specs.steps.WaveRows.{IsRow}
 use Rattle.wave_scheduler.proofs.SettledLemmas.{from_below}
 use Rattle.wave_scheduler.proofs.WavesLemmas.{had_wave, one_before}
@@ -137,8 +137,8 @@ module _ (P : Tables) (forced : List Bool) (budget : ℕ) (judged : List Verdict
       can_run env same unseen = (decides env (has_now env same) unseen).unbarred
 
       is_tried : (env : Environment) → ((d : ℕ) (r : Region) → below old n d ≡ Some r → env d ≡ Some r)
-          → (told : Option ℕ) (o : Outcome) (r : Option Region) → IsTold t c told
-          → IsFound (program_of P) env budget n c told o r → IsTriedIn P budget old c n o r
+          → (taint : Option ℕ) (o : Outcome) (r : Option Region) → IsTaint t c taint
+          → IsFound (program_of P) env budget n c taint o r → IsTriedIn P budget old c n o r
       is_tried env has (Some e) o r seen (so, none) =
           let (d, used, never) = one_refused seen in rw so (d, used, never, none)
       is_tried env has None o (Some region) unseen (so, cost, settles, small) =
@@ -185,8 +185,8 @@ module _ (P : Tables) (forced : List Bool) (budget : ℕ) (judged : List Verdict
         goes_on next more one =
             let (outcome, held, found, sets) = one.finds in (
               more_tried next outcome held (elim found [
-                | inl theirs ↦ is_tried lent had one.told outcome held one.so theirs
-                | inr own ↦ is_tried env (has_now env same) one.told outcome held one.so own
+                | inl theirs ↦ is_tried lent had one.taint outcome held one.so theirs
+                | inr own ↦ is_tried env (has_now env same) one.taint outcome held one.so own
               ]) sets,
               tainted_more P cur next c t more tainted (is_given c n wave) (waits c wave new)
                   (λ e other. (sets.others e other).0) one.spreads,

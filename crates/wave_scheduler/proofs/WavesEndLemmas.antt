@@ -23,7 +23,7 @@ use Rattle.initializer_analysis.specs.RefusedUses.{IsRefusedUse, AreFirstRefused
 use Rattle.wave_scheduler.specs.Settled.{Outcome, Wave, Refused, Stopped, Settled, IsAccepted, region_in}
 use Rattle.wave_scheduler.specs.Settled.{if_below, below}
 use Rattle.wave_scheduler.specs.steps.Judged.{IsTried, Follows, FollowVerdicts}
-use Rattle.wave_scheduler.specs.steps.Waves.{IsTriedIn, StaysRefused, AreTriedBelow, AreRefusedIn, dependent, ToldFirst}
+use Rattle.wave_scheduler.specs.steps.Waves.{IsTriedIn, StaysRefused, AreTriedBelow, AreRefusedIn, dependent, HasFirst}
 use Rattle.initializer_analysis.proofs.ReachesLemmas.{one_of}
 
 -- ---- what is told anew
@@ -68,7 +68,7 @@ module _ (P : Tables) (forced : List Bool) (budget : ℕ) (judged : List Verdict
     (marks : List Bool) (first : List (Option ℕ)) (are : before.AreVerdicts P forced judged)
     (tried : AreTriedBelow P budget judged n S)
     (all : (c m : ℕ) → before.HasWave judged c m → m < n)
-    (refused : AreRefusedIn P S marks) (firsts : AreFirstRefused P marks first) (told : ToldFirst first S T) where
+    (refused : AreRefusedIn P S marks) (firsts : AreFirstRefused P marks first) (told : HasFirst first S T) where
   -- ---- the same is accepted, with the same at hand
 
   still_accepted : (c : ℕ) → IsAccepted S c → IsAccepted T c

@@ -9,7 +9,7 @@ ghost use Rattle.wave_scheduler.specs.steps.Crews.{CanRunWave};
 use crate::gate::{Gate, Worker};
 use crate::lent::Lent;
 use crate::results::{Done, Results};
-use crate::tainted::{Tainted, told};
+use crate::tainted::{Tainted, taint};
 use crate::wave::Wave;
 use region_shape::regions::Regions;
 use std::alloc::{AllocError, Global};
@@ -136,7 +136,7 @@ fn work<W: Lent, G: Gate, R: Wait>(
             return all;
         }
         let class = classes[place];
-        if told(tainted, class).is_some() {
+        if taint(tainted, class).is_some() {
             continue;
         }
         let Ok(done) = run_class::<W, G>(alloc, wave, regions, place, class, worker) else {

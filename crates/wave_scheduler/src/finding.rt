@@ -83,25 +83,25 @@ fn outcome_now<W: Lent, G: Gate>(
     Ok(outcome)
 }
 
-/// What becomes of a class in this wave, where it is told that it depends on a refused class, or nothing.
+/// What becomes of a class in this wave, where it depends on a refused class, or nothing taints it.
 fn find<W: Lent, G: Gate>(
     alloc: Global,
     wave: Wave<'_>,
     regions: &Regions,
     class: u32,
-    told: Option<u32>,
+    taint: Option<u32>,
     given: Option<Done<W>>,
     caller: &Worker<'_, G>,
 ) -> Result<Finding, AllocError>
     requires lent { wave.terms.program.now ≡ W.program }
     requires budget { wave.terms.budget ≡ W.budget }
     requires run { CanRun (program_of wave.terms.program.now) (environment_of regions.now) wave.terms.budget class
-        told }
+        taint }
     ensures { IfOk result (λ found. IsFoundIn (program_of wave.entry.terms.program.now) (environment_of W.regions)
-        (environment_of regions.now) wave.entry.terms.budget wave.entry.number class told (outcome_of found.verdict)
+        (environment_of regions.now) wave.entry.terms.budget wave.entry.number class taint (outcome_of found.verdict)
         (option_map region_of found.region)) }
 {
-    match told {
+    match taint {
         Some(refused) => Ok(Finding {
             verdict: Verdict::Refused(Reason::DependsOn(refused)),
             region: None,
@@ -137,12 +137,12 @@ fn put(settled: &mut Settled, class: u32, found: Finding)
     put_region(&mut settled.regions, class, found.region);
 }
 
-/// Finds what becomes of a class in this wave, where it is told that it depends on a refused class, or nothing.
+/// Finds what becomes of a class in this wave, where it depends on a refused class, or nothing taints it.
 pub(crate) fn find_class<W: Lent, G: Gate>(
     alloc: Global,
     wave: Wave<'_>,
     class: u32,
-    told: Option<u32>,
+    taint: Option<u32>,
     given: Option<Done<W>>,
     caller: &Worker<'_, G>,
     settled: &mut Settled,
@@ -153,12 +153,12 @@ pub(crate) fn find_class<W: Lent, G: Gate>(
     requires place { class < length settled.old.regions }
     requires none { region_in settled.old.regions class ≡ None }
     requires run { CanRun (program_of wave.terms.program.now) (environment_of settled.old.regions) wave.terms.budget
-        class told }
+        class taint }
     ensures { OnOk result (FindsClass (program_of wave.entry.terms.program.now) (environment_of W.regions)
-        (environment_of settled.old.regions) wave.entry.terms.budget wave.entry.number class told
+        (environment_of settled.old.regions) wave.entry.terms.budget wave.entry.number class taint
         (settled_of settled.old) (settled_of settled.new)) }
 {
-    match find(alloc, wave, &settled.regions, class, told, given, caller) {
+    match find(alloc, wave, &settled.regions, class, taint, given, caller) {
         Ok(found) => {
             put(settled, class, found);
             Ok(())

@@ -53,7 +53,7 @@ impl Gate for Open {
 }
 
 /// How often a gate is asked at most.
-const TURNS: u32 = 1_000_000;
+const MOST_ASKS: u32 = 1_000_000;
 
 /// Who settles classes by a gate: a worker, from 0, or the caller, whose number is that of the workers.
 #[derive(Drop)]
@@ -65,7 +65,7 @@ pub(crate) struct Worker<'a, G: Gate> {
 impl<'a, G: Gate> Worker<'a, G> {
     /// Asks the gate until it is ready for a class.
     pub(crate) fn ask(&self, class: u32) {
-        for turn in 0..TURNS {
+        for turn in 0..MOST_ASKS {
             if self.gate.ready(self.who, class, turn) {
                 return;
             }

@@ -10,11 +10,11 @@ pub mod outcome;
 mod plan;
 mod refused;
 mod results;
-mod rows;
 mod settling;
 mod starting;
 mod tainted;
 mod wave;
+mod wave_classes;
 mod waves;
 
 pub use gate::{Gate, Open};

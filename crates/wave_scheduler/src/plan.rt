@@ -5,9 +5,9 @@ ghost use Rattle.wave_scheduler.specs.Outcomes.{AreJudged};
 ghost use Rattle.wave_scheduler.specs.steps.Plans.{IsPlan};
 
 use crate::outcome::Settled;
-use crate::rows::classes_by_wave;
 use crate::starting::start;
 use crate::tainted::Tainted;
+use crate::wave_classes::classes_by_wave;
 use graph::{Components, components_of};
 use initializer_analysis::verdict::Verdict;
 use program::Program;

@@ -4,9 +4,9 @@ ghost use Rattle.std.specs.Prelude.{◌≡◌, length, map, IfOk, OnOk};
 ghost use Rattle.graph.specs.Components.{AreComponents};
 ghost use Rattle.use_graph.specs.steps.Bodies.{IsUseGraph};
 ghost use Rattle.wave_scheduler.specs.Outcomes.{outcome_of, settled_of};
-ghost use Rattle.wave_scheduler.specs.steps.Waves.{dependent, ToldFirst};
-ghost use Rattle.wave_scheduler.specs.steps.Finding.{is_refused, AreFirstIn, TellsEach};
-ghost use Rattle.wave_scheduler.specs.steps.Plans.{TellsFirst};
+ghost use Rattle.wave_scheduler.specs.steps.Waves.{dependent, HasFirst};
+ghost use Rattle.wave_scheduler.specs.steps.Finding.{is_refused, AreFirstIn, GivesEachFirst};
+ghost use Rattle.wave_scheduler.specs.steps.Plans.{GivesFirst};
 
 use crate::outcome::Settled;
 use graph::Components;
@@ -55,7 +55,7 @@ fn first_in(
 }
 
 /// The verdict on a class, where this is the first refused class that it uses.
-fn told(first: Option<u32>, verdict: Verdict) -> Verdict
+fn dependent_verdict(first: Option<u32>, verdict: Verdict) -> Verdict
     ensures { outcome_of result ≡ dependent first (outcome_of verdict) }
 {
     match (first, verdict) {
@@ -66,30 +66,30 @@ fn told(first: Option<u32>, verdict: Verdict) -> Verdict
     }
 }
 
-/// Tells each class that depends on a refused one the first such.
-fn tell_each(first: &[Option<u32>], count: u32, verdicts: &mut Verdicts)
+/// Gives each class that depends on a refused one the first such as its reason.
+fn give_each_first(first: &[Option<u32>], count: u32, verdicts: &mut Verdicts)
     requires count { length verdicts.old ≡ count }
     requires first { length first.now ≡ count }
-    ensures { TellsEach first.now (map outcome_of verdicts.old) (map outcome_of verdicts.new) }
+    ensures { GivesEachFirst first.now (map outcome_of verdicts.old) (map outcome_of verdicts.new) }
 {
     for class in 0..count {
         let place = class as usize;
-        let verdict = told(first[place], verdicts.as_slice()[place]);
+        let verdict = dependent_verdict(first[place], verdicts.as_slice()[place]);
         verdicts.put(class, verdict);
     }
 }
 
-/// Tells each class that depends on a refused one the first such, where all classes are settled.
-fn tell_first(first: &[Option<u32>], count: u32, settled: &mut Settled)
+/// Gives each class that depends on a refused one the first such as its reason, where all classes are settled.
+fn give_first(first: &[Option<u32>], count: u32, settled: &mut Settled)
     requires count { length settled.old.verdicts ≡ count }
     requires first { length first.now ≡ count }
-    ensures { ToldFirst first.now (settled_of settled.old) (settled_of settled.new) }
+    ensures { HasFirst first.now (settled_of settled.old) (settled_of settled.new) }
 {
-    tell_each(first, count, &mut settled.verdicts);
+    give_each_first(first, count, &mut settled.verdicts);
 }
 
-/// Tells each class that depends on refused ones the first such, once all waves are tried.
-pub(crate) fn tell_dependents(
+/// Gives each class that depends on refused ones the first such as its reason, once all waves are tried.
+pub(crate) fn give_first_refused(
     alloc: Global,
     program: &Program,
     uses: &UseGraph,
@@ -99,10 +99,10 @@ pub(crate) fn tell_dependents(
     requires uses { IsUseGraph program.now uses.now }
     requires calls { AreComponents uses.now.calls calls.now }
     requires count { length settled.old.verdicts ≡ length program.now.classes }
-    ensures { OnOk result (TellsFirst program.now (settled_of settled.old) (settled_of settled.new)) }
+    ensures { OnOk result (GivesFirst program.now (settled_of settled.old) (settled_of settled.new)) }
 {
     let count = program.given_count();
     let first = first_in(alloc, program, uses, calls, settled)?;
-    tell_first(first.as_slice(), count, settled);
+    give_first(first.as_slice(), count, settled);
     Ok(())
 }

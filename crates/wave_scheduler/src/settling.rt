@@ -13,7 +13,7 @@ ghost use Rattle.wave_scheduler.specs.declared.outcome.WaveFault.TheVariants.{Me
 use crate::gate::{Gate, Worker};
 use crate::outcome::{Settled, WaveFault};
 use crate::plan::plan_of;
-use crate::refused::tell_dependents;
+use crate::refused::give_first_refused;
 use crate::wave::Terms;
 use crate::waves::{try_all, try_all_here};
 use initializer_analysis::verdict::Verdicts;
@@ -36,7 +36,7 @@ fn settle_judged_here(alloc: Global, terms: Terms<'_>) -> Result<Settled, AllocE
         &mut plan.tainted,
         &mut plan.settled,
     )?;
-    tell_dependents(
+    give_first_refused(
         alloc,
         terms.program,
         &plan.uses,
@@ -67,7 +67,7 @@ fn settle_judged<G: Gate, R: Threads + Wait + Sync>(
         &mut plan.tainted,
         &mut plan.settled,
     )?;
-    tell_dependents(
+    give_first_refused(
         alloc,
         terms.program,
         &plan.uses,

@@ -5,7 +5,7 @@ ghost use Rattle.use_graph.specs.steps.Bodies.{IsUseGraph};
 ghost use Rattle.wave_scheduler.specs.Settled.{IsAccepted};
 ghost use Rattle.wave_scheduler.specs.Outcomes.{settled_of};
 ghost use Rattle.wave_scheduler.specs.steps.Tainting.{IsClosedIn, AddsReached, AreDependents, vertex_in, IsSeen};
-ghost use Rattle.wave_scheduler.specs.steps.Tainting.{IsSearched, IsTold, Spreads, IsOver, SeesOver, AreTainted};
+ghost use Rattle.wave_scheduler.specs.steps.Tainting.{IsSearched, IsTaint, Spreads, IsOver, SeesOver, AreTainted};
 
 use crate::outcome::Settled;
 use graph::{Graph, Visited, reversed, visit};
@@ -166,10 +166,11 @@ impl Tainted {
     }
 }
 
-/// What a class is told that depends on one that is not accepted: not yet which of its uses is the first such.
-pub(crate) fn told(tainted: &Tainted, class: u32) -> Option<u32>
+/// What taints a class: itself, where it depends on one that is not accepted. Which of its uses is the first such is
+/// not known yet.
+pub(crate) fn taint(tainted: &Tainted, class: u32) -> Option<u32>
     requires { IsSearched tainted.now }
-    ensures { IsTold tainted.now class result }
+    ensures { IsTaint tainted.now class result }
 {
     if tainted.has(class) {
         Some(class)

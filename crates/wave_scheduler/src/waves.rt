@@ -17,7 +17,7 @@ use crate::gate::{Gate, Open, Worker};
 use crate::lent::Lent;
 use crate::outcome::Settled;
 use crate::results::{Done, Results};
-use crate::tainted::{Tainted, told};
+use crate::tainted::{Tainted, taint};
 use crate::wave::{Terms, Wave};
 use std::alloc::{AllocError, Global};
 use std::marker::Brand;
@@ -48,8 +48,8 @@ fn try_class<W: Lent, G: Gate>(
         (environment_of settled.old.regions) wave.entry.terms.budget wave.entry.number class tainted.old
         (settled_of settled.old) tainted.new (settled_of settled.new)) }
 {
-    let told = told(tainted, class);
-    find_class(alloc, wave, class, told, given, caller, settled)?;
+    let taint = taint(tainted, class);
+    find_class(alloc, wave, class, taint, given, caller, settled)?;
     tainted.add_refused(settled, class)?;
     Ok(())
 }

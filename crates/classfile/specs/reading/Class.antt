@@ -29,13 +29,13 @@ class_file_of constants header fields methods attributes = record {
   attributes = attributes;
 }
 
-unfoldable pub this_class_at : List Constant → ℕ → List ℕ → Result (ℕ × List ℕ) ClassFault
+abbrev pub this_class_at : List Constant → ℕ → List ℕ → Result (ℕ × List ℕ) ClassFault
 this_class_at pool total bytes = index_at (is_plain_class pool) total bytes
 
-unfoldable pub super_class_at : List Constant → ℕ → List ℕ → Result (ℕ × List ℕ) ClassFault
+abbrev pub super_class_at : List Constant → ℕ → List ℕ → Result (ℕ × List ℕ) ClassFault
 super_class_at pool total bytes = index_at (is_class_or_none pool) total bytes
 
-unfoldable pub interface_at : List Constant → ℕ → List ℕ → Result (ℕ × List ℕ) ClassFault
+abbrev pub interface_at : List Constant → ℕ → List ℕ → Result (ℕ × List ℕ) ClassFault
 interface_at pool total bytes = index_at (is_class pool) total bytes
 
 unfoldable pub interfaces_at : List Constant → ℕ → List ℕ → Result (List ℕ × List ℕ) ClassFault

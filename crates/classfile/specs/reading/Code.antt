@@ -9,7 +9,9 @@ use Rattle.classfile.specs.declared.exceptions.ExceptionHandler.{ExceptionHandle
 use Rattle.classfile.specs.declared.code.Code.{Code}
 use Rattle.classfile.specs.reading.Numbers.{◌>>=◌, number_at, run_at}
 use Rattle.classfile.specs.Gives.{offset}
-use Rattle.classfile.specs.reading.LookupTests.{has_utf8, is_class_or_none}
+use Rattle.classfile.specs.declared.index.WantedConstant.{WantedConstant}
+use Rattle.classfile.specs.declared.index.WantedConstant.TheVariants as wanted
+use Rattle.classfile.specs.reading.LookupTests.{has_utf8, is_class, is_class_or_none, is_plain_class}
 use Rattle.classfile.specs.reading.Repeat.{table_at}
 
 -- an index of a constant that passes a test
@@ -17,7 +19,14 @@ abbrev pub index_at : (ℕ → Bool) → ℕ → List ℕ → Result (ℕ × Lis
 index_at test total bytes = number_at w16 total bytes >>= λ index. if test index.0 then Ok index
     else Err (faults.Index (offset total bytes))
 
-unfoldable pub utf8_index_at : List Constant → ℕ → List ℕ → Result (ℕ × List ℕ) ClassFault
+-- what is wanted stands at an index
+abbrev pub is_wanted : WantedConstant → List Constant → ℕ → Bool
+is_wanted wanted.Utf8 = has_utf8
+is_wanted wanted.Class = is_class
+is_wanted wanted.PlainClass = is_plain_class
+is_wanted wanted.ClassOrNone = is_class_or_none
+
+abbrev pub utf8_index_at : List Constant → ℕ → List ℕ → Result (ℕ × List ℕ) ClassFault
 utf8_index_at pool total bytes = index_at (has_utf8 pool) total bytes
 
 -- a length, and so many bytes

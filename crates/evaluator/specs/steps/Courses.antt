@@ -23,7 +23,8 @@ pub record Alone (c : ℕ) (sh : SharedState) : Type 0 where
 abbrev pub IsAlone : ℕ → SharedTables → Type 0
 IsAlone c s = (p : List Print) → Alone c (shared_of s p)
 
--- So many instructions of c's initializer, each of which costs 1, lead from these frames and this region to those.
+-- Instructions of c's initializer, as many as are counted and each at a cost of 1, lead from these frames and this
+-- region to those.
 pub record GoesAhead (P : Program) (c limit count : ℕ) (old : Segment) (own : Region) (new : Segment) (last : Region)
     : Type 0 where
   pub goes : (env : Environment) (left : ℕ) → count ≤ left

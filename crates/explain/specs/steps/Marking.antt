@@ -15,7 +15,7 @@ use Rattle.use_graph.specs.steps.Deeds.{HoldsOfOne}
 use Rattle.explain.specs.declared.evidences.Evidences.{Evidences}
 use Rattle.explain.specs.declared.bearers.Bearer.{Bearer}
 use Rattle.explain.specs.declared.bearers.Pair.{Pair}
-use Rattle.explain.specs.declared.bearers.Source.{Source}
+use Rattle.explain.specs.declared.bearers.VertexBearer.{VertexBearer}
 use Rattle.explain.specs.steps.Bearers.{Serves}
 use Rattle.explain.specs.steps.Nearest.{Has}
 
@@ -29,20 +29,20 @@ abbrev pub IsBearerAt : UseGraph → Mark → ℕ → Bearer → Type 0
 IsBearerAt uses mark v g = (m : DeclaredMember) × (b : BodyUses) × (slice_get uses.methods v ≡ Some m)
     × (slice_get uses.bodies.items v ≡ Some b) × HoldsOfOne (IsBearerOf mark m) b.told.items g
 
-abbrev pub IsSourceOf : Mark → ℕ → DeclaredMember → Told → Source → Type 0
+abbrev pub IsSourceOf : Mark → ℕ → DeclaredMember → Told → VertexBearer → Type 0
 IsSourceOf mark v m t s = (s.vertex ≡ v) × IsBearerOf mark m t s.bearer
 
-abbrev pub IsSourceAt : UseGraph → Mark → ℕ → Source → Type 0
+abbrev pub IsSourceAt : UseGraph → Mark → ℕ → VertexBearer → Type 0
 IsSourceAt uses mark v s = (s.vertex ≡ v) × IsBearerAt uses mark v s.bearer
 
 -- those of the methods of all vertices
-abbrev pub AreSources : UseGraph → Mark → List Source → Type 0
-AreSources uses mark sources = (s : Source) → Contains sources s ↔ IsBearerAt uses mark s.vertex s.bearer
+abbrev pub AreSources : UseGraph → Mark → List VertexBearer → Type 0
+AreSources uses mark sources = (s : VertexBearer) → Contains sources s ↔ IsBearerAt uses mark s.vertex s.bearer
 
 -- those of the vertices before this one
-abbrev pub AreSourcesBelow : UseGraph → Mark → ℕ → List Source → Type 0
+abbrev pub AreSourcesBelow : UseGraph → Mark → ℕ → List VertexBearer → Type 0
 AreSourcesBelow uses mark limit sources =
-    (s : Source) → Contains sources s ↔ ((s.vertex < limit) × IsBearerAt uses mark s.vertex s.bearer)
+    (s : VertexBearer) → Contains sources s ↔ ((s.vertex < limit) × IsBearerAt uses mark s.vertex s.bearer)
 
 -- one of a method that a vertex of the calls reaches
 abbrev pub ReachesBearer : UseGraph → Mark → ℕ → Bearer → Type 0

@@ -23,7 +23,7 @@ use Rattle.image_format.specs.Shapes.{AreUnits}
 
 -- ---- the program
 
--- The same classes, with more strings behind those that there were.
+-- A program of these classes, with more strings behind those that there were.
 pub record AddsStrings (P Q : Tables) : Type 0 where
   pub family : Q.family ≡ P.family
   pub classes : Q.classes ≡ P.classes

@@ -3,7 +3,7 @@ use Rattle.std.specs.Prelude.{◌≡◌, ℕ, ◌<◌, Bool, true, List, Option,
 use Rattle.vm_state.specs.declared.object.Object.{Object}
 use Rattle.vm_state.specs.declared.value.Value.{Value}
 use Rattle.vm_state.specs.declared.value.Value.TheVariants as values
-use Rattle.vm_state.specs.Objects.{ObjectRow}
+use Rattle.vm_state.specs.Objects.{HeldObjects}
 use Rattle.vm_state.specs.Pools.{pool_by}
 use Rattle.vm_state.specs.SharedState.{Pool}
 use Rattle.vm_state.specs.Statics.{field_in}
@@ -32,7 +32,7 @@ abbrev pub SlotsName : List (Option Region) → List Value → Type 0
 SlotsName regions slots = AllBelow (SlotNames regions slots) (length slots)
 
 -- the slots of the object at a place
-abbrev pub KeptNames : List (Option Region) → ObjectRow → ℕ → Type 0
+abbrev pub KeptNames : List (Option Region) → HeldObjects → ℕ → Type 0
 KeptNames regions row k = (held : ℕ × Object) → slice_get row.objects k ≡ Some held → SlotsName regions held.1.slots
 
 -- the slots of each object

@@ -2,7 +2,7 @@
 use Rattle.std.specs.Prelude.{ℕ, ◌+◌, Bool, false, ◌&&◌, ◌||◌, ◌==◌, List, [], ◌∷◌, ◌++◌, Option, option_map}
 use Rattle.std.specs.Prelude.{if◌then◌else◌}
 use Rattle.vm_state.specs.declared.object.Object.{Object}
-use Rattle.vm_state.specs.Objects.{ObjectRow}
+use Rattle.vm_state.specs.Objects.{HeldObjects}
 use Rattle.place_set.specs.declared.set.Place.{Place}
 use Rattle.region_shape.specs.declared.regions.Region.{Region as Held}
 
@@ -24,7 +24,7 @@ kept_from found c i [] = []
 kept_from found c i (held ∷ more) =
     only_if (is_among found (record { row = c; index = i })) held ++ kept_from found c (i + 1) more
 
-abbrev pub kept_row : List Place → ℕ → ObjectRow → ObjectRow
+abbrev pub kept_row : List Place → ℕ → HeldObjects → HeldObjects
 kept_row found c row = record { count = row.count; objects = kept_from found c 0 row.objects }
 
 abbrev pub kept_in : List Place → ℕ → Held → Held

@@ -3,7 +3,7 @@ use Rattle.std.specs.Prelude.{◌≡◌, ℕ, ◌<◌, List, Option, Some, None,
 use Rattle.std.specs.List.{Contains}
 use Rattle.vm_state.specs.declared.object.Object.{Object}
 use Rattle.vm_state.specs.declared.value.Value.{Value}
-use Rattle.vm_state.specs.Objects.{ObjectRow, AscendsFrom, empty_row}
+use Rattle.vm_state.specs.Objects.{HeldObjects, AscendsFrom, none_held}
 use Rattle.vm_state.specs.SharedState.{Region}
 use Rattle.program.specs.Tables.{Tables, statics_in}
 use Rattle.place_set.specs.declared.set.Place.{Place}
@@ -12,16 +12,16 @@ use Rattle.region_shape.specs.Regions.{region_in, environment_of}
 use Rattle.object_graph.specs.declared.name_set.ObjectName.{ObjectName}
 use Rattle.object_graph.specs.Reached.{reference_to, IsReached}
 
-abbrev pub row_of : Option Held → ObjectRow
-row_of None = empty_row
+abbrev pub row_of : Option Held → HeldObjects
+row_of None = none_held
 row_of (Some region) = region.objects
 
 -- the row of a class; one that made nothing, where it has no region
-abbrev pub row_in : List (Option Held) → ℕ → ObjectRow
+abbrev pub row_in : List (Option Held) → ℕ → HeldObjects
 row_in regions c = row_of (region_in regions c)
 
 -- its numbers rise, and end below its count
-abbrev pub Ascends : ObjectRow → Type 0
+abbrev pub Ascends : HeldObjects → Type 0
 Ascends row = AscendsFrom 0 row.objects row.count
 
 -- the name of an object of a class, with its number

@@ -1,4 +1,4 @@
--- What the parts of a search in a maker's row, and of an addition to it, do.
+-- What the parts of a search in a maker's pool, and of an addition to it, do.
 use Rattle.std.specs.Prelude.{ℕ, ◌+◌, List, [], ◌∷◌, ◌++◌, Option, Some, None, ◌==◌, if◌then◌else◌, slice_get}
 use Rattle.std.specs.Prelude.{◌≡◌, ◌-◌, ◌≤◌, length}
 use Rattle.std.specs.List.{range_with_len}
@@ -6,10 +6,10 @@ use Rattle.vm_state.specs.declared.object.Object.{Object}
 use Rattle.vm_state.specs.declared.object.Monitor.{Monitor}
 use Rattle.vm_state.specs.declared.kept.Kept.{Kept}
 use Rattle.vm_state.specs.steps.Owners.{monitor_in}
-use Rattle.vm_state.specs.Objects.{ObjectRow}
+use Rattle.vm_state.specs.Objects.{HeldObjects}
 
 -- with one more object, of the next number
-abbrev pub with_next : ObjectRow → Object → ObjectRow
+abbrev pub with_next : HeldObjects → Object → HeldObjects
 with_next r o = record { count = r.count + 1; objects = r.objects ++ (r.count, o) ∷ [] }
 
 abbrev pub if_numbered : Option (ℕ × Object) → ℕ → Option Object
@@ -20,7 +20,7 @@ if_numbered (Some o) k = if k == o.0 then Some o.1 else None
 abbrev pub object_at_place : List (ℕ × Object) → ℕ → ℕ → Option Object
 object_at_place os place k = if_numbered (slice_get os place) k
 
--- ---- objects as a row keeps them
+-- ---- objects as a pool keeps them
 
 -- the numbers of the first so many are their places; those of the others stand in a list
 abbrev pub numbers_of : ℕ → List ℕ → List ℕ

@@ -43,8 +43,8 @@ IsFound P env budget n c None outcome held = HasRun P env budget n c outcome hel
 
 -- the same, with the regions that were lent to workers at hand, or with those that there are now
 abbrev pub IsFoundIn : Program → Environment → Environment → ℕ → ℕ → ℕ → Option ℕ → Outcome → Option Region → Type 0
-IsFoundIn P lent env budget n c told outcome held =
-    IsFound P lent budget n c told outcome held ⊎ IsFound P env budget n c told outcome held
+IsFoundIn P lent env budget n c taint outcome held =
+    IsFound P lent budget n c taint outcome held ⊎ IsFound P env budget n c taint outcome held
 
 -- this is what an outcome of the evaluator says in a wave
 abbrev pub IsFoundOf : ℕ → Found → Outcome → Option Region → Type 0
@@ -62,8 +62,8 @@ pub record SetsClass (c : ℕ) (outcome : Outcome) (held : Option Region) (old n
 
 -- what was found of a class was put in its place
 abbrev pub FindsClass : Program → Environment → Environment → ℕ → ℕ → ℕ → Option ℕ → Settled → Settled → Type 0
-FindsClass P lent env budget n c told old new =
-    (outcome : Outcome) × (held : Option Region) × IsFoundIn P lent env budget n c told outcome held
+FindsClass P lent env budget n c taint old new =
+    (outcome : Outcome) × (held : Option Region) × IsFoundIn P lent env budget n c taint outcome held
     × SetsClass c outcome held old new
 
 -- these classes of a wave are tried
@@ -85,12 +85,12 @@ is_refused (verdicts.Refused reason) = true
 
 -- ---- at the end
 
--- classes below a limit are told the first refused class that they use, and the others not yet
-pub record TellsBelow (first : List (Option ℕ)) (limit : ℕ) (old new : List Outcome) : Type 0 where
+-- classes below a limit are given the first refused class that they use, and the others not yet
+pub record GivesFirstBelow (first : List (Option ℕ)) (limit : ℕ) (old new : List Outcome) : Type 0 where
   pub count : length new ≡ length old
   pub each : (c : ℕ) (outcome : Outcome) → c < limit → slice_get old c ≡ Some outcome
       → slice_get new c ≡ Some (dependent (slice_index_or first c None) outcome)
   pub rest : (c : ℕ) → limit ≤ c → slice_get new c ≡ slice_get old c
 
-abbrev pub TellsEach : List (Option ℕ) → List Outcome → List Outcome → Type 0
-TellsEach first old new = TellsBelow first (length old) old new
+abbrev pub GivesEachFirst : List (Option ℕ) → List Outcome → List Outcome → Type 0
+GivesEachFirst first old new = GivesFirstBelow first (length old) old new

@@ -11,7 +11,7 @@ use Rattle.wave_scheduler.specs.declared.wave.Terms.{Terms}
 use Rattle.wave_scheduler.specs.declared.wave.Wave.{Wave}
 use Rattle.wave_scheduler.specs.Settled.{Settled}
 use Rattle.wave_scheduler.specs.Outcomes.{settled_of, AreJudged}
-use Rattle.wave_scheduler.specs.steps.Waves.{AreTriedBelow, StartsFrom, ToldFirst}
+use Rattle.wave_scheduler.specs.steps.Waves.{AreTriedBelow, StartsFrom, HasFirst}
 use Rattle.wave_scheduler.specs.steps.Finding.{AreFirstIn}
 use Rattle.wave_scheduler.specs.steps.Tainting.{AreTainted}
 use Rattle.wave_scheduler.specs.steps.WaveRows.{IsRow, AreRows, row_in}
@@ -49,6 +49,6 @@ pub record IsNthWave (given : Terms) (waves : Rows) (n : ℕ) (wave : Wave) : Ty
   pub number : wave.number ≡ n
   pub classes : wave.classes.now ≡ row_in waves n
 
--- each class that depends on refused ones is told the first such
-abbrev pub TellsFirst : Tables → Settled → Settled → Type 0
-TellsFirst P old new = (first : List (Option ℕ)) × AreFirstIn P old first × ToldFirst first old new
+-- each class that depends on refused ones is given the first such
+abbrev pub GivesFirst : Tables → Settled → Settled → Type 0
+GivesFirst P old new = (first : List (Option ℕ)) × AreFirstIn P old first × HasFirst first old new

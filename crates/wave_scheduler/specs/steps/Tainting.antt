@@ -82,15 +82,15 @@ pub record AreTainted (P : Tables) (S : Settled) (t : Tainted) : Type 0 where
 
 -- ---- a class that is tried
 
--- told something where it depends on a class that is not accepted
-abbrev pub IsTold : Tainted → ℕ → Option ℕ → Type 0
-IsTold t c told = MatchOption told (¬ IsSeen t (vertex_in t c)) (λ e. IsSeen t (vertex_in t c))
+-- what taints a class: itself, where it depends on one that is not accepted
+abbrev pub IsTaint : Tainted → ℕ → Option ℕ → Type 0
+IsTaint t c taint = MatchOption taint (¬ IsSeen t (vertex_in t c)) (λ e. IsSeen t (vertex_in t c))
 
 -- A class is tried where it depends on no class that is not accepted. If it is then not accepted itself, what depends
 -- on it is seen.
 pub record TriesClass (P : Tables) (lent env : Environment) (budget n c : ℕ) (t : Tainted) (old : Settled)
     (more : Tainted) (new : Settled) : Type 0 where
-  pub told : Option ℕ
-  pub so : IsTold t c told
-  pub finds : FindsClass (program_of P) lent env budget n c told old new
+  pub taint : Option ℕ
+  pub so : IsTaint t c taint
+  pub finds : FindsClass (program_of P) lent env budget n c taint old new
   pub spreads : Spreads c (¬ IsAccepted new c) t more

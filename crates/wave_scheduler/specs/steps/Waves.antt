@@ -82,7 +82,7 @@ abbrev pub dependent : Option ℕ → Outcome → Outcome
 dependent (Some e) (Refused (reasons.DependsOn d)) = Refused (reasons.DependsOn e)
 dependent _ outcome = outcome
 
-pub record ToldFirst (first : List (Option ℕ)) (old new : Settled) : Type 0 where
+pub record HasFirst (first : List (Option ℕ)) (old new : Settled) : Type 0 where
   pub count : length new.outcomes ≡ length old.outcomes
   pub each : (c : ℕ) (outcome : Outcome) → slice_get old.outcomes c ≡ Some outcome
       → slice_get new.outcomes c ≡ Some (dependent (slice_index_or first c None) outcome)
@@ -106,7 +106,7 @@ WavesEnd =
     (P : Tables) (forced : List Bool) (budget : ℕ) (judged : List Verdict) (n : ℕ) (old new : Settled)
     (marks : List Bool) (first : List (Option ℕ)) → before.AreVerdicts P forced judged
     → AreTriedBelow P budget judged n old → ((c m : ℕ) → before.HasWave judged c m → m < n)
-    → AreRefusedIn P old marks → AreFirstRefused P marks first → ToldFirst first old new
+    → AreRefusedIn P old marks → AreFirstRefused P marks first → HasFirst first old new
     → FollowVerdicts P budget judged new
 
 -- What is found of a class of the next wave, all of whose uses are accepted, with the regions of lower waves at hand

@@ -16,6 +16,6 @@ pub returns-in-Ok-clause-done : goal.returns-in-Ok-clause-done
 returns-in-Ok-clause-done g c = λ over. (
   c.replayed.ensures.same,
   has_replayed (g.F.Files.holds c.args.files.now) c.args.words.now (g.W.Write.contents c.args.out.now)
-      (g.W.Write.contents c.tell_replay-status.new.out) c.in-Ok.seen c.in-Ok.status c.tell_replay-status.result
+      (g.W.Write.contents c.tell_replay-status.new.out) c.in-Ok.seen c.in-Ok.status c.tell_replay-status.result.0
       c.in-Ok.ensures.replayed (c.tell_replay-status.ensures.done over),
 )

@@ -1,4 +1,4 @@
-use Rattle.std.proofs.Common.{inr, refl}
+use Rattle.std.proofs.Common.{inr}
 use Rattle.init_engine.specs.Turns.{world_of}
 use Rattle.cli.proofs.BeginsLemmas.{has_run_image, of_image_run}
 use Rattle.cli.proofs.run.run_image.Goals as goal
@@ -7,8 +7,7 @@ pub returns-in-Ok-clause-refused : goal.returns-in-Ok-clause-refused
 returns-in-Ok-clause-refused g c = λ refused.
     inr (of_image_run (g.F.Files.holds c.args.files.now) (world_of c.in-Ok.start.world)
     (g.W.Write.contents c.args.out) (g.W.Write.contents c.run_told.result.2) c.args.words.now
-    c.in-Ok.start.image c.in-Ok.start.image.program refl c.in-Ok.ensures.begun
-    (c.run_told.ensures.refused refused))
+    c.in-Ok.start.program c.in-Ok.ensures.begun (c.run_told.ensures.refused refused))
 
 pub returns-in-Ok-clause-done : goal.returns-in-Ok-clause-done
 returns-in-Ok-clause-done g c = λ over.
@@ -16,5 +15,4 @@ returns-in-Ok-clause-done g c = λ over.
     let after = g.W.Write.contents c.run_told.result.2 in
     let new = g.F.Files.holds c.run_told.new.files in
     has_run_image (g.F.Files.holds c.args.files.now) (world_of c.in-Ok.start.world) before after new
-    c.args.words.now c.in-Ok.start.image c.in-Ok.start.image.program c.run_told.result.0 refl
-    c.in-Ok.ensures.begun (rw c.start.ensures.same at (c.run_told.ensures.done over))
+    c.args.words.now c.in-Ok.start.program c.run_told.result.0 c.in-Ok.ensures.begun (rw c.start.ensures.same at (c.run_told.ensures.done over))

@@ -20,10 +20,11 @@ loop-next-init c =
 
 pub loop-next-preserved : goal.loop-next-preserved
 loop-next-preserved c =
-    spread_next c.args.back.now c.args.sources.now c.loop-next.pairs c.add_row.new.pairs c.loop-next.found.items
-    c.add_row.new.found.items c.loop-next.next c.index.result.now
+    spread_next c.args.back.now c.args.sources.now c.loop-next.pairs c.add_vertices.new.pairs c.loop-next.found.items
+    c.add_vertices.new.found.items c.loop-next.next c.index.result.now
     (slice_get-get_or c.loop-next.found.items c.loop-next.next _ (omega arith) ∙ ap Some (sym c.index.ensures))
-    c.loop-next.invariant (rw c.successors.ensures.value at c.in_ok-add_row.ensures.adds) c.in_ok-add_row.ensures.are
+    c.loop-next.invariant (rw c.successors.ensures.value at c.in_ok-add_vertices.ensures.adds)
+    c.in_ok-add_vertices.ensures.are
 
 pub returns : goal.returns
 returns c =

@@ -26,14 +26,14 @@ loop-next-preserved c =
     let row : c.successors.result.now ≡ successors_of graph here =
     c.successors.ensures.value ∙ ap (λ (v : ℕ). successors_of graph v) c.at-vertex.ensures.value in
     record {
-      limit = omega (arith, c.loop-next.invariant.limit, c.add_row.ensures.limit);
-      searching = searching_next graph (c.args.from ∷ []) c.loop-next.seen.items c.add_row.new.seen.items
+      limit = omega (arith, c.loop-next.invariant.limit, c.add_vertices.ensures.limit);
+      searching = searching_next graph (c.args.from ∷ []) c.loop-next.seen.items c.add_vertices.new.seen.items
           c.loop-next.next
-          (omega arith) c.loop-next.invariant.searching (rw row at c.in_ok-add_row.ensures.adds);
-      tree = c.in_ok-add_row.ensures.tree graph here
+          (omega arith) c.loop-next.invariant.searching (rw row at c.in_ok-add_vertices.ensures.adds);
+      tree = c.in_ok-add_vertices.ensures.tree graph here
           (stands_at c.loop-next.seen.items c.loop-next.next (omega arith)) (sym row) c.loop-next.invariant.tree;
-      root = first_kept c.loop-next.seen.items c.successors.result.now c.add_row.new.seen.items c.args.from
-          c.in_ok-add_row.ensures.adds c.loop-next.invariant.root;
+      root = first_kept c.loop-next.seen.items c.successors.result.now c.add_vertices.new.seen.items c.args.from
+          c.in_ok-add_vertices.ensures.adds c.loop-next.invariant.root;
     }
 
 pub returns-clause-members : goal.returns-clause-members

@@ -8,4 +8,4 @@ returns-clause-start c =
     let stand = rw c.program-program.ensures at c.in_ok-classes.ensures.classes in
     let lazy = rw c.program-program.ensures at c.in_ok-shared.ensures in
     started c.args.image.now c.args.entries.now c.in_ok-classes.classes.items c.len.result _ _ _ stand counted lazy
-    c.in_ok-place_regions.ensures (rw c.as_slice.ensures.value at c.in_ok-start.ensures c.args.image.now.program)
+    c.in_ok-place_copies.ensures (rw c.as_slice.ensures.value at c.in_ok-start.ensures c.args.image.now.program)

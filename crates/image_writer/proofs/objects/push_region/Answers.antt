@@ -43,7 +43,7 @@ returns c =
     let fields = field_in c.args.region.now.fields in
     let row : List (ℕ × Object) = c.args.region.now.objects.objects in
     let told : told_objects P.strings pool ≡ map (told_kept P.strings) row =
-    told_row P.strings row pool c.len-kept.ensures.row in
+    told_row P.strings row pool c.len-kept.ensures.pool in
     let many : c.len-kept.result ≡ length (told_objects P.strings pool) =
     c.len-kept.ensures.all ∙ sym (ap length told ∙ length-map row (told_kept P.strings)) in
     let before : List ℕ = c.push_u32.new.out.items in

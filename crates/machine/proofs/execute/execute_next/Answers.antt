@@ -6,8 +6,8 @@ use Rattle.machine.proofs.execute.execute_next.Goals as goal
 pub returns-in-None-clause-gives : goal.returns-in-None-clause-gives
 returns-in-None-clause-gives g c =
     λ p. rw (
-      next_other c.args.program.now c.args.class c.args.method c.args.frame.now c.in-Some.instruction.now (search rules)
-          (search rules),
+      next_other c.args.given.program.now c.args.class c.args.method c.args.frame.now c.in-Some.instruction.now
+          (search rules) (search rules),
       ← c.resolved_operation-resolved.ensures,
       ← c.in-None.ensures.none,
     )
@@ -15,7 +15,7 @@ returns-in-None-clause-gives g c =
 
 pub returns-in-Some-execute_local-clause-gives : goal.returns-in-Some-execute_local-clause-gives
 returns-in-Some-execute_local-clause-gives g c =
-    λ p. rw (next_local c.args.program.now c.args.class c.args.method c.args.frame.now c.in-Some.instruction.now
+    λ p. rw (next_local c.args.given.program.now c.args.class c.args.method c.args.frame.now c.in-Some.instruction.now
     (search rules)
     (completed c.in-Some-execute_local.went c.execute_local.new.frame)
     (search rules)) (c.end.ensures.gives p)

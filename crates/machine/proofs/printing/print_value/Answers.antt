@@ -7,10 +7,10 @@ use Rattle.machine.proofs.printing.print_value.Goals as goal
 pub returns-clause-gives : goal.returns-clause-gives
 returns-clause-gives g c =
     let operands = ap (λ (f : Frame). f.operands) c.frame.view_is in
-    λ p. gives_at g.S.Store.stopped (g.S.Store.run c.args.by (g.S.Store.state c.args.store.now p))
-    (g.S.Store.run c.args.by (g.S.Store.state c.print_on.new.store p)) _ _ c.print_on.new.frame c.print_on.result
-    (ap (g.S.Store.run c.args.by (g.S.Store.state c.args.store.now p))
-    (value_printed c.args.program.now c.args.call c.args.frame.now c.in-Ok-second_reference.receiver c.args.what
+    λ p. gives_at g.S.Store.stopped (g.S.Store.run c.args.given.by (g.S.Store.state c.args.store.now p))
+    (g.S.Store.run c.args.given.by (g.S.Store.state c.print_on.new.store p)) _ _ c.print_on.new.frame c.print_on.result
+    (ap (g.S.Store.run c.args.given.by (g.S.Store.state c.args.store.now p))
+    (value_printed c.args.given.program.now c.args.call c.args.frame.now c.in-Ok-second_reference.receiver c.args.what
     c.args.line c.in-Ok.value c.in-Some.text c.in_ok-text-2.text (rw operands at c.in-Ok.ensures.ok)
     (sym c.in_ok-text.ensures ∙ c.in-Some.is) (rw operands at c.in-Ok-second_reference.ensures.ok)
     c.in_ok-text-2.ensures))

@@ -4,6 +4,6 @@ use Rattle.vm_state.proofs.elements.filled_narrow.Goals as goal
 
 pub returns-in_ok-many-in-Some : goal.returns-in_ok-many-in-Some
 returns-in_ok-many-in-Some g c =
-    ap (map g.E.Element.value_of) c.in_ok-many-in-Some.ensures
-    ∙ map-replicate g.E.Element.value_of c.args.count c.in-Some.element
+    ap (map g.E.Packed.value_of) c.in_ok-many-in-Some.ensures
+    ∙ map-replicate g.E.Packed.value_of c.args.count c.in-Some.element
     ∙ ap (replicate c.args.count) c.in-Some.ensures

@@ -3,6 +3,6 @@ use Rattle.vm_state.proofs.heap.put_objects.Given as goal
 
 abbrev pub invariant-loop-held : goal.invariant-loop-held
 invariant-loop-held l = record {
-  row : l.row ≡ record { count = l.fn.row.count; objects = l.yielded };
+  pool : l.pool ≡ record { count = l.fn.pool.count; objects = l.yielded };
   prefix : l.yielded ≡ take (length l.yielded) l.fn.objects.items;
 }

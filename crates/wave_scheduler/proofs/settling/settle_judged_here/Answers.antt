@@ -16,13 +16,13 @@ try_all_here-requires c =
       tainted = c.in_ok-plan.ensures.tainted;
     }
 
-pub tell_dependents-requires-clause-count : goal.tell_dependents-requires-clause-count
-tell_dependents-requires-clause-count c =
+pub give_first_refused-requires-clause-count : goal.give_first_refused-requires-clause-count
+give_first_refused-requires-clause-count c =
     sym (length-map c.try_all_here.new.settled.verdicts outcome_of) ∙ c.in_ok-try_all_here.ensures.count
 
 pub returns : goal.returns
 returns c =
     all_follow c.args.terms.program.now c.args.terms.budget c.args.terms.verdicts.now c.in_ok-plan.plan.rows.items
-    (settled_of c.try_all_here.new.settled) (settled_of c.tell_dependents.new.settled) c.requires
+    (settled_of c.try_all_here.new.settled) (settled_of c.give_first_refused.new.settled) c.requires
     c.in_ok-plan.ensures.rows (rw c.as_slice.ensures.value at c.in_ok-try_all_here.ensures)
-    c.in_ok-tell_dependents.ensures
+    c.in_ok-give_first_refused.ensures

@@ -8,7 +8,8 @@ use Rattle.program.proofs.resolver.Resolver.add_constants.Given as goal
 abbrev pub invariant-loop-index : goal.invariant-loop-index
 invariant-loop-index l = record {
   members : l.members ≡ l.initial.members;
-  count : length l.pool ≡ l.index;
-  pool : AreRuntimeConstants l.self.hierarchy.now.family l.strings l.self.file.now l.pool;
+  ahead : l.growing.ahead ≡ l.initial.growing.ahead;
+  count : length l.growing.pool ≡ l.index;
+  pool : AreRuntimeConstants l.self.hierarchy.now.family l.strings l.self.file.now l.growing.pool;
   gains : Gains l.initial.strings (flat_map (string_of l.self.file.now) (take l.index l.constants)) l.strings;
 }

@@ -1,5 +1,5 @@
 use Rattle.std.proofs.Common.{[], ap, ◌∙◌}
-use Rattle.vm_state.specs.Objects.{empty_row}
+use Rattle.vm_state.specs.Objects.{none_held}
 use Rattle.vm_state.specs.Pools.{pool_by}
 use Rattle.vm_state.specs.SharedState.{set_region}
 use Rattle.vm_state.specs.SharedTables.{SharedTables}
@@ -19,6 +19,6 @@ pub returns-clause-left : goal.returns-clause-left
 returns-clause-left c p =
     let tables : SharedTables = record { classes = c.self.inside.classes; heap = c.self.inside.heap } in
     shared_of-region tables c.take_fields-fields.new.self c.take-objects.new.self c.args.class (field_in [])
-    (pool_by empty_row) c.take_fields-fields.ensures.states c.take_fields-fields.ensures.fields
+    (pool_by none_held) c.take_fields-fields.ensures.states c.take_fields-fields.ensures.fields
     c.take-objects.ensures.left p
     ∙ ap (λ (s : SharedTables). set_region (shared_of s p) c.args.class empty_region) c.self.view_is
