@@ -1,0 +1,177 @@
+import re,os
+os.chdir('/work/h/C/crates/courses')
+def rd(p): return open(p,encoding='utf8').read()
+def wr(p,s): open(p,'w',encoding='utf8').write(s)
+def rep(s,a,b,n=1):
+    assert s.count(a)>=1,a
+    assert s.count(a)==n,(s.count(a),a)
+    return s.replace(a,b)
+p='src/lib.rt'; s=rd(p)
+s=rep(s,'pub mod cell_branches;\n','pub mod cell_branches;\nmod cell_counts;\n')
+s=rep(s,'pub mod code;\n','pub mod code;\nmod counting;\n')
+wr(p,s)
+p='src/cell_walk.rt'; s=rd(p)
+s=s.replace('''                let by = Comparison::GreaterOrEqual;
+                here.chosen(count_if_cells(cells, at, count, by, y), other)''','''                let test = Comparison::GreaterOrEqual;
+                here.chosen(count_if_cells(cells, at, count, test, y), other)''')
+s=s.replace('''                let by = Comparison::GreaterOrEqual;
+                here.chosen(count_if_number(cells, at, count, by, n), other)''','''                let test = Comparison::GreaterOrEqual;
+                here.chosen(count_if_number(cells, at, count, test, n), other)''')
+wr(p,s)
+open('proofs/CountedLemmas.antt','w',encoding='utf8').write('''-- A local variable that is counted: after it is pushed, or before a branch on it.
+use Rattle.std.proofs.Common.{◌≡◌, ℕ, ◌+◌, ◌<◌, ◌≤◌, List, [], ◌∷◌, Option, Some, refl, sym, ap, subst, ◌∙◌, arith}
+use Rattle.std.proofs.Common.{Bool, true, false, length, slice_get, slice_set, length-set}
+use Rattle.std.specs.Prelude.{ℤ, if◌then◌else◌}
+use Rattle.std.specs.Int.{w32, int_wrapping_add}
+use Rattle.vm_state.specs.declared.value.Value.TheVariants as values
+use Rattle.vm_state.specs.declared.frame.Activity.TheVariants.{Method}
+use Rattle.vm_state.specs.Output.{Print}
+use Rattle.vm_state.specs.Shares.{shared_of}
+use Rattle.vm_state.specs.SharedTables.{SharedTables}
+use Rattle.vm_state.specs.declared.variable.Variable.{Variable as Cell}
+use Rattle.vm_state.specs.declared.variable.Variable.TheVariants as cells
+use Rattle.vm_state.proofs.CellLemmas.{slice_get-below}
+use Rattle.bytecode.specs.declared.placed.Placed.{Placed}
+use Rattle.program.specs.Tables.{Tables}
+use Rattle.frame_instructions.specs.Families.{Goto}
+use Rattle.machine.specs.declared.kinds.Actor.{Actor}
+use Rattle.machine.specs.Operations.{Local, operation_at}
+use Rattle.courses.specs.declared.cell_operands.Goal.TheVariants as goals
+use Rattle.courses.specs.declared.lowering.Lowered.{Lowered}
+use Rattle.courses.specs.declared.op.CellStep.{CellStep}
+use Rattle.courses.specs.declared.ways.Way.{Way}
+use Rattle.courses.specs.declared.ways.Way.TheVariants.{Stop, On, Past, Taken}
+use Rattle.courses.specs.PlainWalks.{at, here, next_place}
+use Rattle.courses.specs.Walks.{Walk}
+use Rattle.courses.specs.steps.Cells.{Point, frame_of}
+use Rattle.courses.specs.steps.CellOperands.{int_into}
+use Rattle.courses.specs.steps.CellOps.{cell, meant, CountsAndTests}
+use Rattle.courses.specs.steps.CellWalks.{Increments, MovesAndIncrements, past_by}
+use Rattle.courses.specs.steps.CellCode.{Content, Advances, Chooses, Leads, LeadsThere, IsCellStep, IsLowered, Walks}
+use Rattle.courses.specs.steps.Lowering.{CountsTo, LowersHere}
+use Rattle.courses.specs.steps.Steps.{increment}
+use Rattle.courses.proofs.WalksLemmas.{walk_more}
+use Rattle.courses.proofs.CellOperationsLemmas.{moves_of}
+use Rattle.courses.proofs.CellStackLemmas.{increment_walks}
+use Rattle.courses.proofs.LoweringLemmas.{jumps}
+use Rattle.courses.proofs.WentLemmas.{chosen_leads}
+
+-- ---- after it is pushed
+
+pub moves_and_increments : (old : List Cell) (a x : ℕ) (n step : ℤ) → slice_get old a ≡ Some (cells.Int n)
+    → a < length old → x < length old
+    → MovesAndIncrements a step x old
+    (slice_set (slice_set old x (cells.Int n)) a (cells.Int (int_wrapping_add w32 n step)))
+moves_and_increments old a x n step there inside room =
+    λ P by s c m locals place p end prints fits high deep free spells.
+    let sh = shared_of s prints in
+    let mid = slice_set old x (cells.Int n) in
+    let new = slice_set mid a (cells.Int (int_wrapping_add w32 n step)) in
+    let below : a < x = omega (arith, fits, high) in
+    let kept = slice_get-below old x a (cells.Int n) below ∙ there in
+    let long : a < length mid = subst (λ k. a < k) (sym (length-set old x (cells.Int n))) inside in
+    let h = at (frame_of (Method c m) locals place p old) sh in
+    let b = at (frame_of (Method c m) locals (next_place place) end mid) sh in
+    let e = at (frame_of (Method c m) locals (next_place (next_place place)) end new) sh in
+    let fitting : 1 ≤ p.free = omega (arith, free) in
+    let inner : a < locals = omega (arith, fits) in
+    walk_more P by.thread by.maker 1 1 h b e
+    (moves_of (cell a) (int_into x) old mid (values.Int n) (there, refl) (refl, room, refl) P by s c m locals place p p
+    end [] (cell a ∷ []) false prints refl (tt, omega arith, omega arith, fitting, (inner, tt))
+    (ap (λ (k : ℕ). goals.Cell k) high, deep, free) (spells.0, tt))
+    (increment_walks mid a n step kept long P by.thread by.maker sh c m locals (next_place place) end fits spells.1.0)
+
+-- ---- before a branch
+
+module _ (P : Tables) (c m locals place a : ℕ) (n : ℤ) (fits : a + 1 ≤ locals)
+    (stands : operation_at P c m place ≡ Some (increment a n)) where
+  pub counts_one : CountsTo P c m locals place a n 1 (next_place place)
+  counts_one by s p old new prints counts = counts P by s c m locals place p prints fits (stands, tt)
+
+  pub counts_two : (head : ℕ) → operation_at P c m (next_place place) ≡ Some (Local (Goto (Some head)))
+      → CountsTo P c m locals place a n 2 head
+  counts_two head jump by s p old new prints counts =
+      walk_more P by.thread by.maker 1 1 (here (frame_of (Method c m) locals place p old) s prints)
+      (here (frame_of (Method c m) locals (next_place place) p new) s prints)
+      (here (frame_of (Method c m) locals head p new) s prints)
+      (counts P by s c m locals place p prints fits (stands, tt))
+      (jumps P by c m locals (next_place place) head p (record { cells = new; shared = s }) (jump, tt) prints)
+
+-- it and the branch lead where what these leave is known
+module _ (P : Tables) (body : List Placed) (c m locals : ℕ) (points : List (Option Point))
+    (place head count a : ℕ) (n : ℤ) (other : ℕ) (p : Point) (l : Lowered) (s : CellStep)
+    (means : meant s.op ≡ CountsAndTests a n (meant l.op) other) (more : s.more ≡ count + l.more)
+    (own : l.to ≡ Some s.to) (past : other ≡ past_by (l.more + 1) head) (counts : CountsTo P c m locals place a n
+    count head) (lowers : IsLowered P body c m locals head p l) (from : slice_get points place ≡ Some (Some p))
+    (taken_to : slice_get points s.to ≡ Some (Some l.after)) (left_to : slice_get points other
+    ≡ Some (Some l.after)) where
+  walked : (by : Actor) (a2 b : Content) (to : ℕ) → Increments a n a2.cells b.cells → b.shared ≡ a2.shared
+      → Walks P by c m locals p l head to b b → (prints : List Print)
+      → Walk P by.thread by.maker (s.more + 1) (here (frame_of (Method c m) locals place p a2.cells) a2.shared prints)
+      (here (frame_of (Method c m) locals to l.after b.cells) b.shared prints)
+  walked by a2 b to counted same goes prints =
+      let sum : count + (l.more + 1) ≡ s.more + 1 = omega (arith, more) in
+      let h = here (frame_of (Method c m) locals place p a2.cells) a2.shared prints in
+      let e = here (frame_of (Method c m) locals to l.after b.cells) b.shared prints in
+      let first : Walk P by.thread by.maker count h (here (frame_of (Method c m) locals head p b.cells) b.shared prints) =
+      subst (λ sh. Walk P by.thread by.maker count h (here (frame_of (Method c m) locals head p b.cells) sh prints))
+      (sym same) (counts by a2.shared p a2.cells b.cells prints counted) in
+      subst (λ (k : ℕ). Walk P by.thread by.maker k h e) sum
+      (walk_more P by.thread by.maker count (l.more + 1) h
+      (here (frame_of (Method c m) locals head p b.cells) b.shared prints) e first (goes prints))
+
+  arrived : (by : Actor) (taken : Bool) (to : ℕ) (a2 b : Content) → to ≡ (if taken then s.to else other)
+      → Increments a n a2.cells b.cells → b.shared ≡ a2.shared → Chooses by (meant l.op) taken b
+      → LeadsThere P by c m locals points (s.more + 1) place to a2 b
+  arrived by true to a2 b is counted same chose =
+      let goes = (lowers.taken by s.to s.to b b own (chosen_leads by body head s.to b (meant l.op) chose)).1 in
+      rw is (record {
+        before = p;
+        after = l.after;
+        from = from;
+        into = taken_to;
+        walk = walked by a2 b s.to counted same goes;
+      })
+  arrived by false to a2 b is counted same chose =
+      let goes = (lowers.past by b b chose (refl, refl)).1 in
+      rw is (record {
+        before = p;
+        after = l.after;
+        from = from;
+        into = left_to;
+        walk = walked by a2 b other counted same
+            (subst (λ (q : ℕ). Walks P by c m locals p l head q b b) (sym past) goes);
+      })
+
+  pub count_step : IsCellStep P body c m locals points place s
+  count_step by Stop a2 b went = tt
+  count_step by On a2 b went = absurd (subst (λ M. Advances P by M a2 b) means went)
+  count_step by Past a2 b went = absurd (subst (λ M. Chooses by M false a2) means went.0)
+  count_step by (Taken to) a2 b went =
+      let leads = subst (λ M. Leads by body place M s.to to a2 b) means went in
+      arrived by leads.0 to a2 b leads.1 leads.2 leads.3 leads.4
+''')
+p='proofs/LoweringLemmas.antt'; s=rd(p)
+s=rep(s,'\njumps : (P : Tables)','\npub jumps : (P : Tables)')
+wr(p,s)
+# Lib order: lemma modules after WentLemmas
+p='proofs/Lib.antt'; s=rd(p)
+s=rep(s,'pub mod CountedLemmas\n','')
+s=rep(s,'pub mod WentLemmas\n','pub mod WentLemmas\npub mod CountedLemmas\n')
+wr(p,s)
+os.makedirs('proofs/counting/counted_at',exist_ok=True)
+os.makedirs('proofs/code/look_at',exist_ok=True)
+open('proofs/code/look_at/Answers.antt','w',encoding='utf8').write('''use Rattle.courses.proofs.code.look_at.Goals as goal
+
+pub returns-in-Some-clause-steps : goal.returns-in-Some-clause-steps
+returns-in-Some-clause-steps c =
+    let P = c.args.program.now in
+    let class = c.args.method.class in
+    let index = c.args.method.index in
+    let settled = c.in_ok-settle.ensures in
+    let point = c.in-Some.point in
+    let from = settled.more.kept c.args.place point c.in-Some.ensures in
+    λ body is_body are.
+    c.in_ok-settle_count.ensures.steps body from
+    (settled.steps P body class index c.args.locals point c.in-Some.ensures (c.in-Some-lower_at.ensures body) are)
+''')
