@@ -1,4 +1,0 @@
-pub mod Builds
-pub mod Refusals
-pub mod Laws
-pub mod steps

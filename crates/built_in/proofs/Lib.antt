@@ -1,2 +1,0 @@
-pub mod ClassNameLemmas
-pub mod MethodsLemmas

@@ -1,4 +1,0 @@
-pub mod ClassNames
-pub mod Keys
-pub mod Methods
-pub mod Subclasses

@@ -1,5 +1,0 @@
-pub mod Refusals
-pub mod Builds
-pub mod BuildTexts
-pub mod Lists
-pub mod Starts

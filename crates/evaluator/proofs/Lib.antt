@@ -1,9 +1,0 @@
-pub mod WithinLemmas
-pub mod StepsLemmas
-pub mod CourseLemmas
-pub mod StoreLemmas
-pub mod MakesLastLemmas
-pub mod SettlesLemmas
-pub mod WiderStopsLemmas
-pub mod LentLemmas
-pub mod PutLemmas

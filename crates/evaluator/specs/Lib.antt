@@ -1,3 +1,0 @@
-pub mod Outcomes
-pub mod Settleable
-pub mod steps

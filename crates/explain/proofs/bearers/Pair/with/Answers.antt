@@ -1,7 +1,0 @@
-use Rattle.explain.proofs.BearersLemmas.{offers_both}
-use Rattle.explain.proofs.bearers.Pair.with.Goals as goal
-
-pub returns-in-Some-second : goal.returns-in-Some-second
-returns-in-Some-second c =
-    offers_both c.args.self c.args.bearer c.in-Some.first c.in-Some-second.field-0 c.requires c.in-Some.is
-    c.in-Some-second.is

@@ -1,7 +1,0 @@
-use Rattle.explain.specs.steps.Marking.{IsSourceOf}
-use Rattle.use_graph.proofs.CollectedLemmas.{Collected}
-use Rattle.explain.proofs.evidences.add_bearers.Given as goal
-
-abbrev pub invariant-loop-item : goal.invariant-loop-item
-invariant-loop-item l =
-    Collected (IsSourceOf l.mark l.vertex l.method) l.told l.item-index l.initial.sources.items l.sources.items

@@ -1,4 +1,0 @@
-pub mod LawsFrameLemmas
-pub mod RearrangingLemmas
-pub mod FamiliesNameLemmas
-pub mod FamiliesPlaceLemmas

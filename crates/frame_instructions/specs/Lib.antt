@@ -1,8 +1,0 @@
-pub mod Arithmetic
-pub mod Completion
-pub mod OperandKinds
-pub mod Rearranging
-pub mod SwitchTargets
-pub mod Families
-pub mod Instructions
-pub mod Laws

@@ -1,6 +1,0 @@
-pub mod Adds
-pub mod Finishing
-pub mod Reverse
-pub mod Numbering
-pub mod Walking
-pub mod Marks

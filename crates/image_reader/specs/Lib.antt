@@ -1,3 +1,0 @@
-pub mod Readings
-pub mod Starts
-pub mod steps

@@ -1,7 +1,0 @@
-use Rattle.std.proofs.Common.{take}
-use Rattle.std.specs.List.{All}
-use Rattle.image_writer.specs.steps.Fits.{FitsType}
-use Rattle.image_writer.proofs.fitting.show_values_fit.Given as goal
-
-abbrev pub invariant-loop-slot : goal.invariant-loop-slot
-invariant-loop-slot l = All FitsType (take l.slot l.slots)

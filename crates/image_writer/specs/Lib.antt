@@ -1,2 +1,0 @@
-pub mod ImageTexts
-pub mod steps

@@ -1,6 +1,0 @@
-pub mod Progress
-pub mod Rounds
-pub mod Threads
-pub mod Rests
-pub mod Starts
-pub mod Slices

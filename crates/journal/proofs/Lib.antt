@@ -1,5 +1,0 @@
-pub mod NumberLemmas
-pub mod LineLemmas
-pub mod RunsLemmas
-pub mod ReadingLemmas
-pub mod UniqueLemmas

@@ -1,5 +1,0 @@
-pub mod Names
-pub mod Files
-pub mod Families
-pub mod ClassIds
-pub mod steps

@@ -1,5 +1,0 @@
-pub mod BuiltIns
-pub mod Linking
-pub mod FoundNames
-pub mod InterfaceFaults
-pub mod BaseTypes

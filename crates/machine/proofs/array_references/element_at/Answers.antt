@@ -1,8 +1,0 @@
-use Rattle.std.proofs.Common.{◌≡◌, Err, rules}
-use Rattle.machine.specs.steps.ArrayAccesses.{element_of}
-use Rattle.machine.proofs.array_references.element_at.Goals as goal
-
-pub returns-in_err-name : goal.returns-in_err-name
-returns-in_err-name g c =
-    let same : c.from_residual.result ≡ Err c.in_err-name.field-0.0 = search rules in
-    λ p. rw same (λ go. c.in_err-name.ensures p (element_of c.args.kind c.args.index go))

@@ -1,5 +1,0 @@
-pub mod ArrayAccesses
-pub mod Unwinding
-pub mod Locks
-pub mod Raising
-pub mod Triggers

@@ -1,3 +1,0 @@
-pub mod Places
-pub mod Kept
-pub mod Listed

@@ -1,5 +1,0 @@
-pub mod Texts
-pub mod Marks
-pub mod Names
-pub mod Covering
-pub mod Unmet

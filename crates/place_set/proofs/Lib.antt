@@ -1,3 +1,0 @@
-pub mod ListLemmas
-pub mod AddsLemmas
-pub mod MarksLemmas

@@ -1,6 +1,0 @@
-//! Sets of places in rows.
-#![tactic(auto)]
-
-mod set;
-
-pub use set::{Place, PlaceSet};

@@ -1,8 +1,0 @@
-pub mod Suits
-pub mod Shapes
-pub mod Counts
-pub mod Texts
-pub mod Sizes
-pub mod Laws
-pub mod Wholes
-pub mod Regions

@@ -1,9 +1,0 @@
-//! Where the threads of a run stand, read from another run over its own schedule.
-#![tactic(auto)]
-
-mod lines;
-mod places;
-mod replaying;
-
-pub use lines::stack_lines;
-pub use replaying::{ThreadStacks, stacks};

@@ -1,6 +1,0 @@
-pub mod Objects
-pub mod Elements
-pub mod Statics
-pub mod Output
-pub mod ClassWords
-pub mod Owners

@@ -1,7 +1,0 @@
-pub mod Judged
-pub mod Waves
-pub mod Finding
-pub mod Tainting
-pub mod WaveRows
-pub mod Crews
-pub mod Plans
