@@ -53,7 +53,7 @@ use Rattle.use_graph.specs.Code.{callee_of_call, chosen_callee, found_callee, Ma
 use Rattle.use_graph.specs.Uses.{CallsLeftOut, IsLeftOut}
 use Rattle.audit.specs.Ends.{class_by, class_of, receiver_for, receiver_of, choice_of, Runs, IsNoMethod}
 use Rattle.audit.specs.Ends.{IsByOperands, unnamed, no_method, IsLack, Unsupported, Missing}
-use Rattle.audit.proofs.CallsLemmas.{selected_given}
+use Rattle.use_graph.proofs.ScopeUsesLemmas.{selected_given}
 use Rattle.audit.proofs.HaltsLemmas.{IsFor, HaltsFor, LeadsFor, LeadsAt, Suits, at_state, fault, went, used, asked}
 use Rattle.audit.proofs.HaltsLemmas.{looked, changed, made}
 use Rattle.audit.proofs.HaltsLemmas.{need, either, pushes, on_object}

@@ -28,43 +28,6 @@ use Rattle.use_graph.specs.Scopes.{scope_if}
 use Rattle.use_graph.specs.Uses.{IsDeclared, Calls, Needs}
 use Rattle.use_graph.proofs.ScopeUsesLemmas.{called_runs}
 
--- ---- what is selected for any receiver is selected for one of a given class
-
-module _ (family : Family) (d k : ℕ) where
-  no_member : (o : Option BuiltInMethod) → option_map (λ m. methods.BuiltIn m) o ≡ Some (methods.Given d k) → ⊥
-  no_member None h = cc
-  no_member (Some m) h = cc
-
-  from_key : (m : ResolvedMethod) (key : NameAndType)
-      → ((e : ℕ) → selected family (class.Given e) m ≡ found_from is_inherited family key (class.Given e))
-      → (x : ClassId) → found_from is_inherited family key x ≡ Some (methods.Given d k) → IsSelectable family m d k
-  from_key m key same (class.Given e) h = (by_key family m key same d k).1 (found_declares family key e d k h)
-  from_key m key same (class.BuiltIn b) h = absurd (no_member _ h)
-  from_key m key same (class.Array a) h = absurd (no_member _ h)
-
-  pub selected_given : (x : ClassId) (m : ResolvedMethod) → selected family x m ≡ Some (methods.Given d k)
-      → IsSelectable family m d k
-  unfolding selected
-  selected_given x (methods.BuiltIn b) h =
-      from_key (methods.BuiltIn b) (key_of_member b) (selects_built_in family b) x h
-  selected_given x (methods.Given c j) h = by_flags (is_private (flags_in family c j)) refl h
-    where
-      by_name : (o : Option NameAndType) → key_in family c j ≡ o → is_private (flags_in family c j) ≡ false
-          → found_if is_inherited family x o ≡ Some (methods.Given d k) → IsSelectable family (methods.Given c j) d k
-      by_name None is other h = absurd cc
-      by_name (Some key) is other h =
-          from_key (methods.Given c j) key (selects_given family c j key other is) x h
-
-      by_flags : (b : Bool) → is_private (flags_in family c j) ≡ b
-          → cond b (Some (methods.Given c j)) (found_if is_inherited family x (key_in family c j))
-          ≡ Some (methods.Given d k)
-          → IsSelectable family (methods.Given c j) d k
-      by_flags true private h =
-          let here : c ≡ d = cc in
-          let place : j ≡ k = cc in
-          (private_alone family c j private d k).1 (here, place)
-      by_flags false other h = by_name (key_in family c j) refl other h
-
 -- ---- what is called
 
 -- what an instruction of a method calls by its scope

@@ -17,8 +17,6 @@ pub const NATIVE: u16 = 0x0100;
 pub const INTERFACE: u16 = 0x0200;
 /// Without code, or without instances.
 pub const ABSTRACT: u16 = 0x0400;
-/// An enum, or a constant of one.
-pub const ENUM: u16 = 0x4000;
 
 /// Whether access flags have a flag.
 pub fn has_flag(access_flags: u16, flag: u16) -> bool

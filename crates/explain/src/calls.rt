@@ -3,8 +3,7 @@
 ghost use Rattle.std.specs.Prelude.{◌≡◌, ◌↔◌, IsTrue, MatchOption};
 ghost use Rattle.std.specs.List.{Contains};
 ghost use Rattle.bytecode.specs.declared.placed.Placed.{Placed as Held};
-ghost use Rattle.machine.specs.Operations.{meaning};
-ghost use Rattle.use_graph.specs.Code.{MayRunFor, callee_of, callee_of_call, chosen_callee};
+ghost use Rattle.use_graph.specs.Code.{MayRunFor};
 ghost use Rattle.use_graph.specs.Uses.{Calls};
 ghost use Rattle.use_graph.specs.declared.callee.Callee.TheVariants as callees;
 ghost use Rattle.explain.specs.Paths.{CallsAt};
@@ -13,11 +12,10 @@ ghost use Rattle.explain.specs.steps.Callers.{MayCall};
 use built_in::class_id::ClassId;
 use bytecode::{Instruction, Placed};
 use hierarchy::member::{DeclaredMember, Method};
-use machine::call_operation::{CallOperation, Choice};
-use machine::resolved::{Resolved, resolved_operation};
+use machine::resolved::resolved_operation;
 use program::Program;
 use program::class::Implementation;
-use use_graph::callee::Callee;
+use use_graph::callee::{Callee, callee_of};
 
 /// Whether two methods are the same.
 pub(crate) fn is_same(method: DeclaredMember, other: DeclaredMember) -> bool
@@ -49,42 +47,6 @@ fn may_run_for(program: &Program, callee: Callee, method: DeclaredMember) -> boo
         Callee::Nobody => false,
         Callee::Exactly { class, index } => is_same(DeclaredMember { class, index }, method),
         Callee::Selected(selected) => is_selected(program, selected, method),
-    }
-}
-
-/// The callee of a call of an instance method.
-fn chosen_callee(choice: Choice) -> Callee
-    ensures { result ≡ chosen_callee choice }
-{
-    match choice {
-        Choice::Selected(method) => Callee::Selected(method),
-        Choice::Found(Some(Method::Given { class, index })) => Callee::Exactly { class, index },
-        Choice::Found(_) => Callee::Nobody,
-    }
-}
-
-/// The callee of a call.
-fn callee_of_call(call: CallOperation) -> Callee
-    ensures { result ≡ callee_of_call call }
-{
-    match call {
-        CallOperation::Static(call) => Callee::Exactly {
-            class: call.class,
-            index: call.index,
-        },
-        CallOperation::Instance(call) => chosen_callee(call.choice),
-        CallOperation::Print(_, _, call) => chosen_callee(call.choice),
-        CallOperation::EndLine(call) => chosen_callee(call.choice),
-    }
-}
-
-/// The callee of an instruction.
-fn callee_of(resolved: Resolved) -> Callee
-    ensures { result ≡ callee_of (meaning resolved) }
-{
-    match resolved {
-        Resolved::OnCall(call) => callee_of_call(call),
-        _ => Callee::Nobody,
     }
 }
 

@@ -8,19 +8,7 @@ ghost use Rattle.graph.specs.steps.Finishing.{IsFinishingOrder};
 
 use crate::components::{Components, components_by};
 use crate::graph::Graph;
-use crate::search::reach_all;
 use std::alloc::{AllocError, Global};
-
-/// Whether a vertex is on a cycle: it reaches itself along one edge or more.
-///
-/// # Errors
-/// Where memory runs out.
-pub fn is_on_cycle(alloc: Global, graph: &Graph, vertex: usize) -> Result<bool, AllocError>
-    ensures { IfOk result (λ on. IsTrue on ↔ OnCycle graph.now vertex) }
-{
-    let seen = reach_all(alloc, graph, graph.successors(vertex))?;
-    Ok(seen.has(vertex))
-}
 
 /// Whether one of a row is in the component of this number.
 fn leads_into(row: &[usize], components: &Components, number: usize) -> bool
@@ -37,7 +25,7 @@ fn leads_into(row: &[usize], components: &Components, number: usize) -> bool
 }
 
 /// Whether a vertex is on a cycle, by the graph's components: it has an edge into its own.
-pub fn is_on_cycle_by(graph: &Graph, components: &Components, vertex: usize) -> bool
+fn is_on_cycle(graph: &Graph, components: &Components, vertex: usize) -> bool
     requires components { AreComponents graph.now components.now }
     requires vertex { vertex < length graph.now }
     ensures { IsTrue result ↔ OnCycle graph.now vertex }
@@ -56,7 +44,7 @@ fn least_by(graph: &Graph, components: &Components, known: usize) -> usize
     ensures { IsLeastOnCycle graph.now result }
 {
     for vertex in 0..known {
-        if is_on_cycle_by(graph, components, vertex) {
+        if is_on_cycle(graph, components, vertex) {
             return vertex;
         }
     }

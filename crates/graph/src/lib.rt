@@ -13,7 +13,6 @@ mod walk;
 
 pub use arrangement::{Arrangement, arrange};
 pub use components::{Components, components_of};
-pub use cycle::is_on_cycle;
 pub use graph::Graph;
 pub use reverse::reversed;
 pub use search::{reach, reach_all, visit};

@@ -1,4 +1,4 @@
--- The same in small steps: an initializer alone, one instruction after the other.
+-- Settling in small steps: an initializer alone, one instruction after the other.
 use Rattle.std.specs.Prelude.{◌≡◌, ℕ, suc, ◌+◌, ◌-◌, ◌<◌, ◌≤◌, List, [], ◌∷◌, Option, Some, None, ◌↔◌}
 use Rattle.vm_state.specs.declared.frame.Frame.{Frame}
 use Rattle.vm_state.specs.SharedState.{Region}

@@ -43,7 +43,7 @@ module _ (family : Family) (d k : ℕ) where
   from_key m key same (class.BuiltIn b) h = absurd (no_member _ h)
   from_key m key same (class.Array a) h = absurd (no_member _ h)
 
-  selected_given : (x : ClassId) (m : ResolvedMethod) → selected family x m ≡ Some (methods.Given d k)
+  pub selected_given : (x : ClassId) (m : ResolvedMethod) → selected family x m ≡ Some (methods.Given d k)
       → IsSelectable family m d k
   unfolding selected
   selected_given x (methods.BuiltIn b) h =

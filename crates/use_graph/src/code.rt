@@ -9,7 +9,7 @@ ghost use Rattle.use_graph.specs.Code.{chosen_callee, found_callee, is_print, pr
 ghost use Rattle.use_graph.specs.Code.{written_field, read_field, written_by, read_by, resolved_feature};
 ghost use Rattle.use_graph.specs.Code.{feature_on_object, operation_feature, feature_of};
 
-use crate::callee::Callee;
+use crate::callee::{Callee, callee_of};
 use crate::feature::Feature;
 use built_in::method::BuiltInMethod;
 use bytecode::{Instruction, Placed};
@@ -102,39 +102,6 @@ fn needed(resolved: Resolved) -> Option<u32>
         Resolved::OnCall(CallOperation::Static(call)) => Some(call.class),
         Resolved::OnObject(ObjectOperation::NewGiven(class)) => Some(class),
         _ => None,
-    }
-}
-
-fn chosen_callee(choice: Choice) -> Callee
-    ensures { result ≡ chosen_callee choice }
-{
-    match choice {
-        Choice::Selected(method) => Callee::Selected(method),
-        Choice::Found(Some(Method::Given { class, index })) => Callee::Exactly { class, index },
-        Choice::Found(_) => Callee::Nobody,
-    }
-}
-
-fn callee_of_call(call: CallOperation) -> Callee
-    ensures { result ≡ callee_of_call call }
-{
-    match call {
-        CallOperation::Static(call) => Callee::Exactly {
-            class: call.class,
-            index: call.index,
-        },
-        CallOperation::Instance(call) => chosen_callee(call.choice),
-        CallOperation::Print(_, _, call) => chosen_callee(call.choice),
-        CallOperation::EndLine(call) => chosen_callee(call.choice),
-    }
-}
-
-fn callee_of(resolved: Resolved) -> Callee
-    ensures { result ≡ callee_of (meaning resolved) }
-{
-    match resolved {
-        Resolved::OnCall(call) => callee_of_call(call),
-        _ => Callee::Nobody,
     }
 }
 

@@ -94,8 +94,7 @@ fn same_operands(left: &[Variable], right: &[Variable]) -> bool
 }
 
 impl Cells {
-    /// So many local variables (`max_locals`) that hold nothing, and no operands, with room for so many places
-    /// (`max_stack`).
+    /// Local variables (`max_locals`) that hold nothing, and no operands, with room for places (`max_stack`).
     ///
     /// # Errors
     /// `AllocError` where memory is refused.
@@ -141,7 +140,7 @@ impl Cells {
         })
     }
 
-    /// The same as `new`, in the same memory where it is enough.
+    /// What `new` makes, in the memory of these cells where it is enough.
     ///
     /// # Errors
     /// `AllocError` where memory is refused.
@@ -162,7 +161,7 @@ impl Cells {
         })
     }
 
-    /// The same once more.
+    /// A copy.
     ///
     /// # Errors
     /// `AllocError` where memory is refused.
@@ -199,7 +198,7 @@ impl Cells {
         variables
     }
 
-    /// So many local variables, and so many operands, with so many places free, in cells that have room for them; as
+    /// Local variables, operands and free places, as many as are said, in cells that have room for them; as
     /// many operands as there are cells, where there are fewer.
     #[inline(always)]
     pub fn of_variables(variables: Vec<Variable>, locals: u16, depth: u16, free: u32) -> Cells

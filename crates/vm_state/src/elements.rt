@@ -24,7 +24,7 @@ pub(crate) enum Brief {
     Out,
 }
 
-/// As many as this are held in a row without memory of its own.
+/// How many are held without memory of their own.
 const FEW: usize = 3;
 
 /// Up to three of them.

@@ -71,7 +71,7 @@ impl Frame {
             && self.cells.is_same(&other.cells)
     }
 
-    /// The same once more.
+    /// A copy.
     ///
     /// # Errors
     /// `AllocError` where memory is refused.
@@ -130,7 +130,7 @@ impl FrameList {
         same_items(&self.frames, &other.frames)
     }
 
-    /// The same once more.
+    /// A copy.
     ///
     /// # Errors
     /// `AllocError` where memory is refused.
@@ -232,7 +232,7 @@ impl Segment {
         self.innermost.is_same(&other.innermost) && self.callers.is_same(&other.callers)
     }
 
-    /// The same once more.
+    /// A copy.
     ///
     /// # Errors
     /// `AllocError` where memory is refused.

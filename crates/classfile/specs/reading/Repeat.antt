@@ -1,4 +1,4 @@
--- The same reader, again and again. It may look at what it read before.
+-- A reader again and again, which may look at what it read before.
 use Rattle.std.specs.Prelude.{ℕ, zero, suc, List, [], ◌∷◌, ◌++◌, Result, Ok}
 use Rattle.std.specs.Int.{w16}
 use Rattle.classfile.specs.declared.fault.ClassFault.{ClassFault}

@@ -12,7 +12,7 @@ pub record AreNumbered (firsts : List ℕ) (methods : List DeclaredMember) : Typ
   pub placed : (n d k : ℕ) → slice_get methods n ≡ Some (record { class = d; index = k })
       → (first : ℕ) × (slice_get firsts d ≡ Some first) × (n ≡ first + k)
 
--- So many methods of a class stand behind others.
+-- The first methods of a class, as many as are counted, stand behind others.
 pub record Adds (c count : ℕ) (old new : List DeclaredMember) : Type 0 where
   pub len : length new ≡ length old + count
   pub keeps : (n : ℕ) (m : DeclaredMember) → slice_get old n ≡ Some m → slice_get new n ≡ Some m
