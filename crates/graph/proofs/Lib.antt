@@ -3,7 +3,7 @@ pub mod MarksLemmas
 pub mod RowsLemmas
 pub mod ReachesLemmas
 pub mod AddsLemmas
-pub mod WalkingLemmas
+pub mod DescendingLemmas
 pub mod ReverseLemmas
 pub mod NumberingLemmas
 pub mod NumberedLemmas

@@ -2,5 +2,5 @@ pub mod Adds
 pub mod Finishing
 pub mod Reverse
 pub mod Numbering
-pub mod Walking
+pub mod Descending
 pub mod Marks

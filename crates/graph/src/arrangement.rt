@@ -7,9 +7,9 @@ ghost use Rattle.graph.specs.Order.{ComesAfter, ComesAfterOrCycles};
 ghost use Rattle.graph.specs.Reaches.{OnCycle};
 
 use crate::cycle::least_on_cycle;
+use crate::descent::finishing_order;
 use crate::graph::Graph;
 use crate::visited::Visited;
-use crate::walk::finishing_order;
 use std::alloc::{AllocError, Global};
 
 /// The vertices of a graph in an order, or why there is none.

@@ -5,11 +5,11 @@ ghost use Rattle.graph.specs.Components.{AreComponents};
 ghost use Rattle.graph.specs.steps.Finishing.{IsFinishingOrder, IsTurnedOrder};
 ghost use Rattle.graph.specs.steps.Numbering.{AreNumbered};
 
+use crate::descent::finishing_order;
 use crate::graph::Graph;
 use crate::numbering::number_all;
 use crate::reverse::reversed;
 use crate::visited::Visited;
-use crate::walk::finishing_order;
 use std::alloc::{AllocError, Global};
 use std::marker::Model;
 
@@ -65,7 +65,7 @@ pub fn components_of(alloc: Global, graph: &Graph) -> Result<Components, AllocEr
     components_by(alloc, graph, order.as_slice())
 }
 
-/// The components of a graph by an order in which a walk in depth finishes the vertices (Kosaraju's algorithm).
+/// The components of a graph by an order in which a descent in depth finishes the vertices (Kosaraju's algorithm).
 pub(crate) fn components_by(
     alloc: Global,
     graph: &Graph,

@@ -51,7 +51,7 @@ fn least_by(graph: &Graph, components: &Components, known: usize) -> usize
     known
 }
 
-/// The least vertex on a cycle, where one is known, and an order in which a walk in depth finishes the vertices.
+/// The least vertex on a cycle, where one is known, and an order in which a descent in depth finishes the vertices.
 pub(crate) fn least_on_cycle(
     alloc: Global,
     graph: &Graph,

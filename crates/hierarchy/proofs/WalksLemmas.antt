@@ -10,7 +10,7 @@ use Rattle.std.proofs.lemmas.List.Elements.{All-append, All-map, All-weaker, All
 use Rattle.std.proofs.lemmas.List.Elements.{Contains-append_left, Contains-append_right, Contains-append_cases}
 use Rattle.std.proofs.lemmas.List.Elements.{Contains-push, Contains-push_cases}
 use Rattle.graph.specs.Seen.{Joins}
-use Rattle.graph.proofs.WalkingLemmas.{distinct_push}
+use Rattle.graph.proofs.DescendingLemmas.{distinct_push}
 use Rattle.loading.specs.Families.{Family, IsFamily, IsAncestor, parent, further, parents_in, AreParentsWithin}
 use Rattle.loading.specs.Families.{given_superclass}
 use Rattle.loading.specs.declared.given.Superclass.{Superclass}

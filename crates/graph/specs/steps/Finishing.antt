@@ -1,4 +1,4 @@
--- The order in which a walk in depth finishes vertices.
+-- The order in which a descent in depth finishes vertices.
 use Rattle.std.specs.Prelude.{ℕ, ◌+◌, ◌<◌, List, length, take, slice_index, ◌⊎◌}
 use Rattle.std.specs.List.{Contains}
 use Rattle.graph.specs.Rows.{Rows}

@@ -1,7 +1,7 @@
 use Rattle.std.proofs.Common.{arith}
 use Rattle.graph.specs.Reaches.{OnCycle}
 use Rattle.graph.proofs.RowsLemmas.{has_successor}
-use Rattle.graph.proofs.WalkingLemmas.{one_more}
+use Rattle.graph.proofs.DescendingLemmas.{one_more}
 use Rattle.graph.proofs.cycle.least_by.Goals as goal
 
 pub is_on_cycle-requires-clause-vertex : goal.is_on_cycle-requires-clause-vertex

@@ -1,6 +1,6 @@
 use Rattle.std.proofs.Common.{ℕ, ◌<◌, ◌≤◌, ◌-◌, length, slice_index}
 use Rattle.std.specs.List.{Contains}
-use Rattle.graph.proofs.walk.skip.Given as goal
+use Rattle.graph.proofs.descent.skip.Given as goal
 
 abbrev pub invariant-loop-at : goal.invariant-loop-at
 invariant-loop-at l = record {

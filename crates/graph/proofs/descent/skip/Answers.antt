@@ -1,7 +1,7 @@
 use Rattle.std.proofs.Common.{arith, slice_index, rules}
 use Rattle.std.specs.List.{Contains}
-use Rattle.graph.proofs.WalkingLemmas.{one_more}
-use Rattle.graph.proofs.walk.skip.Goals as goal
+use Rattle.graph.proofs.DescendingLemmas.{one_more}
+use Rattle.graph.proofs.descent.skip.Goals as goal
 
 pub loop-at-preserved : goal.loop-at-preserved
 loop-at-preserved c = record {

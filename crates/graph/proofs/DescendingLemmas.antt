@@ -1,4 +1,4 @@
--- The steps of a walk in depth.
+-- The steps of a descent in depth.
 use Rattle.std.proofs.Common.{◌≡◌, ℕ, ◌+◌, ◌-◌, ◌<◌, ◌≤◌, List, [], ◌∷◌, ◌++◌, length, take, set, slice_index, ◌⊎◌, inl}
 use Rattle.std.proofs.Common.{inr, refl, sym, subst, arith}
 use Rattle.std.proofs.lemmas.Bool.{cases_eq, cases_lt}
@@ -12,7 +12,7 @@ use Rattle.graph.specs.Reaches.{Reaches, itself, along}
 use Rattle.graph.specs.Seen.{AreDistinct, count_of}
 use Rattle.graph.specs.Order.{IsPostorder}
 use Rattle.graph.specs.steps.Finishing.{IsFinishedOrLater, FinishesReached, IsFinishingOrder}
-use Rattle.graph.specs.steps.Walking.{Walking}
+use Rattle.graph.specs.steps.Descending.{Descending}
 use Rattle.graph.proofs.SeenLemmas.{count_of-push_same, count_of-push_other, count_of-contains, count_of-absent}
 use Rattle.graph.proofs.SeenLemmas.{Contains-counted}
 use Rattle.graph.proofs.OrderLemmas.{place_of_member}
@@ -32,16 +32,16 @@ last_of n k h j = omega arith
 -- ---- what was seen
 
 pub on_path_is_seen : (graph : Rows) (seen path passed finished : List ℕ) (x : ℕ)
-    → Walking graph seen path passed finished → Contains path x → Contains seen x
+    → Descending graph seen path passed finished → Contains path x → Contains seen x
 on_path_is_seen graph seen path passed finished x w h =
     Contains-counted seen x (omega (arith, w.counted x, count_of-contains path x h))
 
 pub finished_is_seen : (graph : Rows) (seen path passed finished : List ℕ) (x : ℕ)
-    → Walking graph seen path passed finished → Contains finished x → Contains seen x
+    → Descending graph seen path passed finished → Contains finished x → Contains seen x
 finished_is_seen graph seen path passed finished x w h =
     Contains-counted seen x (omega (arith, w.counted x, count_of-contains finished x h))
 
-seen_is_known : (graph : Rows) (seen path passed finished : List ℕ) (x : ℕ) → Walking graph seen path passed finished
+seen_is_known : (graph : Rows) (seen path passed finished : List ℕ) (x : ℕ) → Descending graph seen path passed finished
     → Contains seen x → Contains finished x ⊎ Contains path x
 seen_is_known graph seen path passed finished x w h =
     elim (some (count_of finished x) (count_of path x) (omega (arith, w.counted x, count_of-contains seen x h))) [
@@ -53,7 +53,7 @@ seen_is_known graph seen path passed finished x w h =
     some a b h = grind arith
 
 pub last_is_vertex : (graph : Rows) (seen path passed finished : List ℕ) (v : ℕ)
-    → Walking graph seen path passed finished → 0 < length path
+    → Descending graph seen path passed finished → 0 < length path
     → v ≡ slice_index path (length path - 1) → v < length graph
 last_is_vertex graph seen path passed finished v w some last =
     All-contains (λ u. u < length graph) seen v w.within
@@ -90,12 +90,12 @@ distinct_push seen b absent distinct x = elim (cases_eq b x) [
 -- ---- the steps
 
 -- more successors of a vertex have been seen
-pub walk_look : (graph : Rows) (seen path passed finished : List ℕ) (v next : ℕ) → v < length passed
+pub descent_look : (graph : Rows) (seen path passed finished : List ℕ) (v next : ℕ) → v < length passed
     → next ≤ length (successors_of graph v)
     → ((j : ℕ) → j < next → Contains seen (slice_index (successors_of graph v) j))
-    → Walking graph seen path passed finished
-    → Walking graph seen path (set passed v next) finished
-walk_look graph seen path passed finished v next small bound looked w = record {
+    → Descending graph seen path passed finished
+    → Descending graph seen path (set passed v next) finished
+descent_look graph seen path passed finished v next small bound looked w = record {
   counted = w.counted;
   distinct = w.distinct;
   within = w.within;
@@ -120,10 +120,10 @@ walk_look graph seen path passed finished v next small bound looked w = record {
     else u n = grind (arith, common_steps)
 
 -- a vertex that was not seen goes onto the path
-walk_down : (graph : Rows) (seen path passed finished : List ℕ) (b : ℕ) → (Contains seen b → ⊥) → b < length graph
+descent_down : (graph : Rows) (seen path passed finished : List ℕ) (b : ℕ) → (Contains seen b → ⊥) → b < length graph
     → ((i : ℕ) → i < length path → Reaches graph (slice_index path i) b)
-    → Walking graph seen path passed finished → Walking graph (seen ++ b ∷ []) (path ++ b ∷ []) passed finished
-walk_down graph seen path passed finished b absent small leads w = record {
+    → Descending graph seen path passed finished → Descending graph (seen ++ b ∷ []) (path ++ b ∷ []) passed finished
+descent_down graph seen path passed finished b absent small leads w = record {
   counted = counted_push seen path finished b w.counted;
   distinct = distinct_push seen b absent w.distinct;
   within = All-push (λ u. u < length graph) seen b w.within small;
@@ -143,22 +143,22 @@ walk_down graph seen path passed finished b absent small leads w = record {
 }
 
 -- the path goes on along an edge
-pub walk_push : (graph : Rows) (seen seen' path path' passed finished : List ℕ) (v b : ℕ) → 0 < length path
+pub descent_push : (graph : Rows) (seen seen' path path' passed finished : List ℕ) (v b : ℕ) → 0 < length path
     → v ≡ slice_index path (length path - 1)
     → Contains (successors_of graph v) b → b < length graph → (Contains seen b → ⊥) → seen' ≡ seen ++ b ∷ []
     → path' ≡ path ++ b ∷ []
-    → Walking graph seen path passed finished → Walking graph seen' path' passed finished
-walk_push graph seen seen' path path' passed finished v b some last edge small absent es ep w =
-    rw (es, ep) (walk_down graph seen path passed finished b absent small
+    → Descending graph seen path passed finished → Descending graph seen' path' passed finished
+descent_push graph seen seen' path path' passed finished v b some last edge small absent es ep w =
+    rw (es, ep) (descent_down graph seen path passed finished b absent small
     (λ i less. along (subst (λ (y : ℕ). Reaches graph (slice_index path i) y) (sym last)
     (w.chain i (length path - 1) (omega arith) (omega arith))) edge) w)
 
 -- the path begins
-pub walk_root : (graph : Rows) (seen seen' path' passed finished : List ℕ) (b : ℕ) → b < length graph
+pub descent_root : (graph : Rows) (seen seen' path' passed finished : List ℕ) (b : ℕ) → b < length graph
     → (Contains seen b → ⊥) → seen' ≡ seen ++ b ∷ []
-    → path' ≡ b ∷ [] → Walking graph seen [] passed finished → Walking graph seen' path' passed finished
-walk_root graph seen seen' path' passed finished b small absent es ep w =
-    rw (es, ep) (walk_down graph seen [] passed finished b absent small (λ i h. absurd (omega arith)) w)
+    → path' ≡ b ∷ [] → Descending graph seen [] passed finished → Descending graph seen' path' passed finished
+descent_root graph seen seen' path' passed finished b small absent es ep w =
+    rw (es, ep) (descent_down graph seen [] passed finished b absent small (λ i h. absurd (omega arith)) w)
 
 -- what a vertex reaches, as it goes from the path to what is finished
 reached_at_pop : (graph : Rows) (seen path finished : List ℕ) (v : ℕ) → AreDistinct seen
@@ -208,13 +208,14 @@ reached_push graph finished v before top i u h r = elim (cases_lt i (length fini
 ]
 
 -- the last vertex of the path is finished
-pub walk_pop : (graph : Rows) (seen path path' passed finished finished' : List ℕ) (v : ℕ) → path ≡ path' ++ v ∷ []
+pub descent_pop : (graph : Rows) (seen path path' passed finished finished' : List ℕ) (v : ℕ) → path ≡ path' ++ v ∷ []
     → finished' ≡ finished ++ v ∷ []
     → ((j : ℕ) → j < length (successors_of graph v) → Contains seen (slice_index (successors_of graph v) j))
-    → Walking graph seen path passed finished → Walking graph seen path' passed finished'
-walk_pop graph seen path path' passed finished finished' v ep ef all w = rw ef (go (rw ep at w))
+    → Descending graph seen path passed finished → Descending graph seen path' passed finished'
+descent_pop graph seen path path' passed finished finished' v ep ef all w = rw ef (go (rw ep at w))
   where
-    go : Walking graph seen (path' ++ v ∷ []) passed finished → Walking graph seen path' passed (finished ++ v ∷ [])
+    go : Descending graph seen (path' ++ v ∷ []) passed finished → Descending graph seen path' passed (finished ++ v ∷
+        [])
     go w = record {
       counted = counted_pop seen path' finished v w.counted;
       distinct = w.distinct;
@@ -265,9 +266,9 @@ walk_pop graph seen path path' passed finished finished' v ep ef all w = rw ef (
             whole : Contains finished b → Contains (take i (finished ++ v ∷ [])) b
             whole o = (let t : take i (finished ++ v ∷ []) ≡ finished = grind (arith, common_steps) in rw t o)
 
-walk_orders : (graph : Rows) (seen passed finished : List ℕ) → ((v : ℕ) → v < length graph → Contains seen v)
-    → Walking graph seen [] passed finished → IsPostorder graph finished
-walk_orders graph seen passed finished all w = record {
+descent_orders : (graph : Rows) (seen passed finished : List ℕ) → ((v : ℕ) → v < length graph → Contains seen v)
+    → Descending graph seen [] passed finished → IsPostorder graph finished
+descent_orders graph seen passed finished all w = record {
   each = record {
     within = All-weaker (Contains finished) (λ v. v < length graph)
         (λ v h. All-contains (λ u. u < length graph) seen v w.within
@@ -278,10 +279,10 @@ walk_orders graph seen passed finished all w = record {
 }
 
 -- everything has been seen, and the path is empty
-pub walk_done : (graph : Rows) (seen passed finished : List ℕ) → ((v : ℕ) → v < length graph → Contains seen v)
-    → Walking graph seen [] passed finished → IsFinishingOrder graph finished
-walk_done graph seen passed finished all w =
-    record { postorder = walk_orders graph seen passed finished all w; reached = w.reached }
+pub descent_done : (graph : Rows) (seen passed finished : List ℕ) → ((v : ℕ) → v < length graph → Contains seen v)
+    → Descending graph seen [] passed finished → IsFinishingOrder graph finished
+descent_done graph seen passed finished all w =
+    record { postorder = descent_orders graph seen passed finished all w; reached = w.reached }
 
 -- ---- plain facts
 

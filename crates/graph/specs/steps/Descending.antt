@@ -1,4 +1,4 @@
--- A walk through a graph in depth.
+-- A descent through a graph in depth.
 use Rattle.std.specs.Prelude.{◌≡◌, ℕ, ◌+◌, ◌<◌, ◌≤◌, List, length, slice_index}
 use Rattle.std.specs.List.{All, Contains}
 use Rattle.graph.specs.Rows.{Rows, successors_of}
@@ -8,7 +8,7 @@ use Rattle.graph.specs.Order.{ComesAfterOrCycles}
 use Rattle.graph.specs.steps.Finishing.{FinishesReached}
 
 -- what was seen stands once, on the path or among what is finished
-pub record Walking (graph : Rows) (seen path passed finished : List ℕ) : Type 0 where
+pub record Descending (graph : Rows) (seen path passed finished : List ℕ) : Type 0 where
   pub counted : (x : ℕ) → count_of finished x + count_of path x ≡ count_of seen x
   pub distinct : AreDistinct seen
   pub within : All (λ v. v < length graph) seen
