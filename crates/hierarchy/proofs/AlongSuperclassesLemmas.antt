@@ -7,9 +7,9 @@ use Rattle.loading.specs.Families.{IsParentsFirst}
 use Rattle.hierarchy.specs.Search.{Search}
 use Rattle.hierarchy.specs.declared.member.DeclaredMember.{DeclaredMember}
 use Rattle.hierarchy.specs.steps.Reaches.{Nearest, here, above, nowhere}
-use Rattle.hierarchy.specs.steps.Walks.{ParentsBefore, none, next}
+use Rattle.hierarchy.specs.steps.Ascents.{ParentsBefore, none, next}
 use Rattle.hierarchy.proofs.AboveLemmas.{interface_parents}
-use Rattle.hierarchy.proofs.WalksOrderLemmas.{postorder_ends}
+use Rattle.hierarchy.proofs.AscentsOrderLemmas.{postorder_ends}
 
 -- what is not found in the front is looked for after
 pub not_in_front : {family : Family} {own : ℕ → Option ℕ} {xs ys : List ℕ} {r : Option DeclaredMember}

@@ -14,7 +14,7 @@ use Rattle.hierarchy.specs.steps.Above.{IsAmongOrAbove}
 use Rattle.hierarchy.specs.steps.ParentSteps.{AreSteps, class_of_step}
 use Rattle.hierarchy.specs.declared.member.DeclaredMember.{DeclaredMember}
 use Rattle.hierarchy.specs.declared.parents_first.ClassWithParents.{ClassWithParents}
-use Rattle.hierarchy.proofs.WalksOrderLemmas.{none_in_empty}
+use Rattle.hierarchy.proofs.AscentsOrderLemmas.{none_in_empty}
 
 -- ---- among classes or above them
 

@@ -7,9 +7,9 @@ use Rattle.loading.proofs.PlaceLemmas.{contains_at}
 use Rattle.loading.proofs.FamiliesParentLemmas.{no_interfaces, no_superclasses}
 use Rattle.hierarchy.specs.Search.{Search, nothing, above}
 use Rattle.hierarchy.specs.steps.Above.{first_with, IsAmongOrAbove}
-use Rattle.hierarchy.specs.steps.Walks.{IsSearchOrder}
+use Rattle.hierarchy.specs.steps.Ascents.{IsSearchOrder}
 use Rattle.hierarchy.proofs.AboveLemmas.{ancestor_parts, among_parents}
-use Rattle.hierarchy.proofs.WalksOrderLemmas.{none_in_empty}
+use Rattle.hierarchy.proofs.AscentsOrderLemmas.{none_in_empty}
 
 none_among : (family : Family) (c : ℕ) → IsAmongOrAbove family [] c → Contains [] c
 none_among family c (inl among) = among

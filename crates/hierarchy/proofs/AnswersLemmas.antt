@@ -32,7 +32,7 @@ use Rattle.hierarchy.proofs.AmongLemmas.{among_one, above_one}
 use Rattle.hierarchy.proofs.DefaultsLemmas.{one_more}
 use Rattle.hierarchy.proofs.MemberKeysLemmas.{key_is, same_key_itself}
 use Rattle.hierarchy.proofs.WordLemmas.{both}
-use Rattle.hierarchy.proofs.WalksOrderLemmas.{none_in_empty, in_front, in_rest}
+use Rattle.hierarchy.proofs.AscentsOrderLemmas.{none_in_empty, in_front, in_rest}
 
 -- ---- lists
 

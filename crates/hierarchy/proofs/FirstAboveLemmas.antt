@@ -10,7 +10,7 @@ use Rattle.graph.proofs.SeenLemmas.{one_if, one_if_same, count_of-contains}
 use Rattle.loading.proofs.PlaceLemmas.{contains_at}
 use Rattle.hierarchy.specs.steps.Above.{first_with}
 use Rattle.hierarchy.specs.steps.Ancestors.{Stands, IsFirst}
-use Rattle.hierarchy.specs.declared.ancestors.Standing.{Standing}
+use Rattle.hierarchy.specs.declared.ancestors.PlacedMember.{PlacedMember}
 
 -- ---- where a number stands
 
@@ -41,10 +41,11 @@ one_place (x ∷ xs) (suc i) (suc j) c once a b =
 
 -- ---- one more class is asked
 
-module _ (own : ℕ → Option ℕ) (items asked : List ℕ) (first : Option Standing)
+module _ (own : ℕ → Option ℕ) (items asked : List ℕ) (first : Option PlacedMember)
     (are : IsFirst own items asked first) where
   pub first_stays : (c : ℕ)
-      → ((q k : ℕ) → slice_get items q ≡ Some c → own c ≡ Some k → (s : Standing) × (first ≡ Some s) × (s.place ≤ q))
+      → ((q k : ℕ) → slice_get items q ≡ Some c → own c ≡ Some k → (s : PlacedMember) × (first ≡ Some s) × (s.place ≤
+      q))
       → IsFirst own items (asked ++ c ∷ []) first
   first_stays c known = record {
     stands = are.stands;
@@ -57,7 +58,7 @@ module _ (own : ℕ → Option ℕ) (items asked : List ℕ) (first : Option Sta
   }
 
   pub first_moves : (c k place : ℕ) → AreDistinct items → slice_get items place ≡ Some c → own c ≡ Some k
-      → ((s : Standing) → first ≡ Some s → place < s.place)
+      → ((s : PlacedMember) → first ≡ Some s → place < s.place)
       → IsFirst own items (asked ++ c ∷ []) (Some (record { place = place; member = record { class = c; index = k } }))
   first_moves c k place once there has further = record {
     stands = λ s is.
@@ -85,7 +86,7 @@ module _ (own : ℕ → Option ℕ) (items asked : List ℕ) (first : Option Sta
 
   -- one that stands behind what was found
   pub first_before : (c place : ℕ) → AreDistinct items → slice_get items place ≡ Some c
-      → ((s : Standing) × (first ≡ Some s) × (s.place ≤ place)) → IsFirst own items (asked ++ c ∷ []) first
+      → ((s : PlacedMember) × (first ≡ Some s) × (s.place ≤ place)) → IsFirst own items (asked ++ c ∷ []) first
   first_before c place once there found = first_stays c (λ q k at has.
       (found.0, found.1, omega (arith, found.2, one_place items place q c once there at)))
 
@@ -119,14 +120,14 @@ none_unless None never = refl
 none_unless (Some k) never = absurd (never k refl)
 
 module _ (own : ℕ → Option ℕ) (items asked : List ℕ) (whole : (c k : ℕ) → own c ≡ Some k → Contains asked c) where
-  pub first_is : (s : Standing) → IsFirst own items asked (Some s) → Some s.member ≡ first_with own items
+  pub first_is : (s : PlacedMember) → IsFirst own items asked (Some s) → Some s.member ≡ first_with own items
   first_is s are =
       let stands = are.stands s refl in
       sym (first_at own items s.place s.member.class s.member.index stands.0 stands.1
       (λ q d small at. none_unless (own d)
       (λ k has. (let least = are.least q d k (whole d k has) at has in
       let alike : s ≡ least.0 = cc in
-      omega (arith, small, least.2, ap (λ (x : Standing). x.place) alike)))))
+      omega (arith, small, least.2, ap (λ (x : PlacedMember). x.place) alike)))))
 
   pub none_is_first : IsFirst own items asked None → None ≡ first_with own items
   none_is_first are =

@@ -7,7 +7,7 @@ use Rattle.loading.specs.Families.{Family, IsFamily, is_interface_in, interfaces
 use Rattle.hierarchy.specs.Search.{firsts}
 use Rattle.hierarchy.specs.Initialization.{is_initialized_first}
 use Rattle.hierarchy.specs.steps.InterfaceOrders.{AddsInterfaces, Gathers, TellFirst}
-use Rattle.hierarchy.specs.steps.Walks.{ParentsBefore, none, next}
+use Rattle.hierarchy.specs.steps.Ascents.{ParentsBefore, none, next}
 use Rattle.hierarchy.proofs.AboveLemmas.{interface_parents}
 use Rattle.hierarchy.proofs.FirstsLemmas.{filter_again, kept_joined}
 use Rattle.hierarchy.proofs.InterfaceOrdersLemmas.{marks_tell, superinterfaces_first}

@@ -1,4 +1,4 @@
--- What is initialized before a class, from a walk up its interfaces.
+-- What is initialized before a class, from an ascent its interfaces.
 use Rattle.std.proofs.Common.{◌≡◌, ℕ, zero, suc, ◌+◌, ◌<◌, ◌≤◌, Bool, true, false, cond, List, [], ◌∷◌, ◌++◌, length}
 use Rattle.std.proofs.Common.{take, get_or, Option, refl, sym, ap, ◌∙◌, subst, inl, inr, arith}
 use Rattle.std.proofs.Common.{append-nil, append_assoc}
@@ -15,18 +15,18 @@ use Rattle.hierarchy.specs.Search.{SuperinterfacesFirst, none, next}
 use Rattle.classfile.specs.ClassFile.{declares_default}
 use Rattle.hierarchy.specs.Initialization.{is_initialized_first, IsInitializationOrder, class}
 use Rattle.hierarchy.specs.steps.InterfaceOrders.{AddsInterfaces, TellFirst}
-use Rattle.hierarchy.specs.steps.Walks.{ParentsBefore}
-use Rattle.hierarchy.specs.steps.Walks as walks
+use Rattle.hierarchy.specs.steps.Ascents.{ParentsBefore}
+use Rattle.hierarchy.specs.steps.Ascents as ascents
 use Rattle.hierarchy.proofs.AboveLemmas.{interface_parents}
-use Rattle.hierarchy.proofs.WalksOrderLemmas.{in_front, in_rest}
+use Rattle.hierarchy.proofs.AscentsOrderLemmas.{in_front, in_rest}
 
--- ---- walks up interfaces
+-- ---- ascents up interfaces
 
 -- above interfaces stand interfaces alone
 pub superinterfaces_first : (family : Family) → IsFamily family → {is all : List ℕ} → ParentsBefore family is all
     → ((i : ℕ) → Contains is i → is_interface_in family i ≡ true) → SuperinterfacesFirst family is all
-superinterfaces_first family fits walks.none are = none
-superinterfaces_first family fits (walks.next {c} {cs} {above = low} {rest} lower higher) are =
+superinterfaces_first family fits ascents.none are = none
+superinterfaces_first family fits (ascents.next {c} {cs} {above = low} {rest} lower higher) are =
     let parents : parents_in family c ≡ interfaces_in family c =
     interface_parents family c fits (are c (in_front c cs)) in
     let under : SuperinterfacesFirst family (parents_in family c) low =

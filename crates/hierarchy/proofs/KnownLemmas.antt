@@ -18,7 +18,7 @@ use Rattle.hierarchy.proofs.AlongSuperclassesLemmas.{not_in_front}
 use Rattle.hierarchy.proofs.AmongLemmas.{among_one, itself_among, above_one, among_push, among_left, among_right}
 use Rattle.hierarchy.proofs.AmongLemmas.{found_in_front, read_at}
 use Rattle.hierarchy.proofs.WordLemmas.{either, either_left, either_right, both, no_bit}
-use Rattle.hierarchy.proofs.WalksOrderLemmas.{none_in_empty}
+use Rattle.hierarchy.proofs.AscentsOrderLemmas.{none_in_empty}
 
 abbrev no_bits : Known
 no_bits = record { first = 0; covered = 0; present = 0; hidden = 0 }

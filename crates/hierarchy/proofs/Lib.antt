@@ -34,8 +34,8 @@ pub mod PoolTextsLemmas
 pub mod ReachesLemmas
 pub mod SweepsLemmas
 pub mod OrderWalkLemmas
-pub mod WalksOrderLemmas
-pub mod WalksLemmas
+pub mod AscentsOrderLemmas
+pub mod AscentsLemmas
 pub mod AncestorsLemmas
 pub mod TopsLemmas
 pub mod UpClassesLemmas

@@ -20,7 +20,7 @@ use Rattle.hierarchy.specs.declared.nearest.NearestMembers.{NearestMembers}
 use Rattle.hierarchy.specs.declared.reach_table.Reach.{Reach}
 use Rattle.hierarchy.specs.declared.wanted.Wanted.{Wanted}
 use Rattle.hierarchy.proofs.UpClassesLemmas.{no_class_declares}
-use Rattle.hierarchy.proofs.WalksOrderLemmas.{in_front}
+use Rattle.hierarchy.proofs.AscentsOrderLemmas.{in_front}
 
 -- ---- one more reach
 

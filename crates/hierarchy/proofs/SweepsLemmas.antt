@@ -292,9 +292,9 @@ module _ (family : Family) (own : ℕ → Option ℕ) where
       tells_same family own classes v c row last.0 last.1 last.2 alone
       (λ r near. passes_down c r none (pass r near))
 
--- ---- the walk up from the class before
+-- ---- the ascent up from the class before
 
--- the walk has not gone past the superclass of the class that comes
+-- the ascent has not gone past the superclass of the class that comes
 abbrev pub StandsBelow : Family → ℕ → Option ℕ → Type 0
 StandsBelow family c at = (d : ℕ) → superclasses_in family c ≡ d ∷ [] → (v : ℕ) × (at ≡ Some v) × IsAtOrAbove family v d
 
@@ -324,7 +324,7 @@ below_next family c v at upper held_at is other stands d has = by (stands d has)
             let equal : f ≡ y = cc in
             (y, refl, subst (λ (z : ℕ). IsAtOrAbove family z d) equal rest)
 
--- how far the walk can go
+-- how far the ascent can go
 abbrev pub height_from : Family → Option ℕ → ℕ
 height_from family None = 0
 height_from family (Some c) = suc (height family c)
@@ -334,7 +334,7 @@ pub falls_up : (family : Family) (c : ℕ) (upper : Option ℕ) → IsFamily fam
 falls_up family c None fits is = omega arith
 falls_up family c (Some d) fits is = omega (arith, falls_given family c d fits is)
 
--- the walk has ended at a class without a given superclass, so the class that comes has none either
+-- the ascent has ended at a class without a given superclass, so the class that comes has none either
 pub left_at_end : (family : Family) (own : ℕ → Option ℕ) (c : ℕ) (at : Option ℕ) (r : Option DeclaredMember) → at ≡ None
     → StandsBelow family c at → NearestFrom family own at r → NearestAbove family own c r
 left_at_end family own c at r none stands near = (

@@ -5,7 +5,7 @@ pub mod Above
 pub mod Sought
 pub mod HierarchyTables
 pub mod InterfaceOrders
-pub mod Walks
+pub mod Ascents
 pub mod GrowingTexts
 pub mod DepthFirst
 pub mod Reaches

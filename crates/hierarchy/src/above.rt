@@ -7,7 +7,7 @@ ghost use Rattle.hierarchy.specs.steps.Defaults.{classes_of};
 use crate::ancestors::Ancestors;
 use crate::class_set::ClassSet;
 
-/// What stands above a class: found by a walk, whose room was there, or by marks, which take none from the heap.
+/// What stands above a class: found by an ascent, whose room was there, or by marks, which take none from the heap.
 #[derive(Clone, Copy)]
 pub(crate) enum Above<'a> {
     Walked(&'a Ancestors),

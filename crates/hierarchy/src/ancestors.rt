@@ -6,10 +6,10 @@ ghost use Rattle.std.specs.List.{Contains};
 ghost use Rattle.loading.specs.Families.{parents_in};
 ghost use Rattle.hierarchy.specs.steps.Ancestors.{AreOf, HasRoom};
 ghost use Rattle.hierarchy.specs.steps.DepthFirst.{ArePlaces};
-ghost use Rattle.hierarchy.specs.steps.Walks.{IsSearchOrder};
+ghost use Rattle.hierarchy.specs.steps.Ascents.{IsSearchOrder};
 
+use crate::ascent::Ascent;
 use crate::member::DeclaredMember;
-use crate::walk::Walk;
 use graph::Visited;
 use loading::family::Family;
 use std::alloc::{AllocError, Global};
@@ -21,7 +21,7 @@ pub(crate) struct Ancestors {
     alloc: Global,
     /// The class that they were found of.
     class: Option<u32>,
-    walk: Walk,
+    ascent: Ascent,
     /// By class: where it stands among them, if it is one of them.
     places: Vec<u32>,
 }
@@ -32,7 +32,7 @@ impl Drop for Ancestors {
         let Ancestors {
             alloc: _,
             class: _,
-            walk: _,
+            ascent: _,
             places: _,
         } = self;
     }
@@ -40,7 +40,7 @@ impl Drop for Ancestors {
 
 /// A member of one of them, and where its class stands among them, counted from 0.
 #[derive(Clone, Copy)]
-pub(crate) struct Standing {
+pub(crate) struct PlacedMember {
     pub(crate) place: u32,
     pub(crate) member: DeclaredMember,
 }
@@ -51,9 +51,9 @@ impl Model for Ancestors {
 
     ghost Value = { AncestorList };
 
-    ghost view = { λ s. record { class = s.class; items = s.walk.entered.items } };
+    ghost view = { λ s. record { class = s.class; items = s.ascent.entered.items } };
 
-    ghost invariant = { λ s. HasRoom s.walk s.places.items };
+    ghost invariant = { λ s. HasRoom s.ascent s.places.items };
 }
 
 impl Ancestors {
@@ -64,11 +64,11 @@ impl Ancestors {
     pub(crate) fn new(alloc: Global) -> Result<Ancestors, AllocError>
         ensures { IfOk result (λ ancestors. ancestors.class ≡ None) }
     {
-        let walk = Walk::new(alloc, 0)?;
+        let ascent = Ascent::new(alloc, 0)?;
         Ok(Ancestors {
             alloc,
             class: None,
-            walk,
+            ascent,
             places: Vec::new(alloc),
         })
     }
@@ -86,7 +86,7 @@ impl Ancestors {
             return Ok(());
         }
         self.class = None;
-        self.walk_above(family, class)?;
+        self.ascend_from(family, class)?;
         self.class = Some(class);
         Ok(())
     }
@@ -101,25 +101,25 @@ impl Ancestors {
         }
     }
 
-    /// Finds those of a class by a walk.
-    fn walk_above(&mut self, family: &Family, class: u32) -> Result<(), AllocError>
+    /// Finds those of a class by an ascent.
+    fn ascend_from(&mut self, family: &Family, class: u32) -> Result<(), AllocError>
         requires { self.old.class ≡ None }
         ensures class { self.new.class ≡ None }
         ensures order { OnOk result (IsSearchOrder family.now (parents_in family.now class) self.new.items) }
     {
         let count = family.classes().len();
         if class as usize >= count {
-            self.walk.forget();
+            self.ascent.forget();
             return Ok(());
         }
-        make_room(self.alloc, count, &mut self.walk, &mut self.places)?;
-        match self.walk.above_class(family, class) {
+        make_room(self.alloc, count, &mut self.ascent, &mut self.places)?;
+        match self.ascent.above_class(family, class) {
             Ok(()) => {
-                note_places(self.walk.entered(), &mut self.places);
+                note_places(self.ascent.entered(), &mut self.places);
                 Ok(())
             }
             Err(error) => {
-                self.walk.forget();
+                self.ascent.forget();
                 Err(error)
             }
         }
@@ -130,7 +130,7 @@ impl Ancestors {
         ensures { MatchOption result (¬ Contains self.now.items class)
             (λ place. slice_get self.now.items place ≡ Some class) }
     {
-        if self.walk.entered().has(class as usize) {
+        if self.ascent.entered().has(class as usize) {
             Some(place_in(&self.places, class))
         } else {
             None
@@ -149,19 +149,19 @@ fn place_in(places: &[u32], class: u32) -> u32
 fn make_room(
     alloc: Global,
     count: usize,
-    walk: &mut Walk,
+    ascent: &mut Ascent,
     places: &mut Vec<u32>,
 ) -> Result<(), AllocError>
     requires few { count ≤ 65535 }
-    requires room { HasRoom walk.old places.old.items }
-    ensures room { HasRoom walk.new places.new.items }
+    requires room { HasRoom ascent.old places.old.items }
+    ensures room { HasRoom ascent.new places.new.items }
     ensures enough { OnOk result (count ≤ length places.new.items) }
 {
     if count <= places.len() {
         return Ok(());
     }
     let wider = vec![in alloc; 0; count]?;
-    *walk = Walk::new(alloc, count)?;
+    *ascent = Ascent::new(alloc, count)?;
     *places = wider;
     Ok(())
 }

@@ -6,13 +6,13 @@ ghost use Rattle.graph.specs.Rows.{IsClosed};
 ghost use Rattle.loading.specs.Families.{IsFamily, AreParentsWithin, interfaces_in, superclasses_in};
 ghost use Rattle.hierarchy.specs.Initialization.{IsInitializationOrder};
 ghost use Rattle.hierarchy.specs.steps.InterfaceOrders.{AreShort, Gathers, TellFirst};
-ghost use Rattle.hierarchy.specs.steps.Walks.{KeepsRoom};
+ghost use Rattle.hierarchy.specs.steps.Ascents.{KeepsRoom};
 ghost use Rattle.hierarchy.specs.Search.{row_in};
 
+use crate::ascent::Ascent;
 use crate::class_lists::{ClassLists, empty_lists};
 use crate::initialized_first::{add_marked, initialized_first};
 use crate::short_orders::{ShortOrders, gather};
-use crate::walk::Walk;
 use loading::family::Family;
 use loading::given::{ClassNumbers, Superclass};
 use std::alloc::{AllocError, Global};
@@ -29,9 +29,9 @@ pub fn initialization_orders(alloc: Global, family: &Family) -> Result<ClassList
         (row_in rows c)) }
 {
     let first = initialized_first(alloc, family)?;
-    let mut walk = Walk::new(alloc, family.classes().len())?;
-    let short = ShortOrders::new(alloc, family, first.as_slice(), &mut walk)?;
-    orders_of(alloc, family, first.as_slice(), &short, &mut walk)
+    let mut ascent = Ascent::new(alloc, family.classes().len())?;
+    let short = ShortOrders::new(alloc, family, first.as_slice(), &mut ascent)?;
+    orders_of(alloc, family, first.as_slice(), &short, &mut ascent)
 }
 
 /// The orders of the classes of a family.
@@ -40,18 +40,18 @@ fn orders_of(
     family: &Family,
     first: &[bool],
     short: &ShortOrders,
-    walk: &mut Walk,
+    ascent: &mut Ascent,
 ) -> Result<ClassLists, AllocError>
     requires first { TellFirst family.now first.now }
     requires short { AreShort family.now short.now.rows.items }
-    requires entered { walk.old.entered.limit ≡ length family.now }
-    requires left { walk.old.left.limit ≡ length family.now }
+    requires entered { ascent.old.entered.limit ≡ length family.now }
+    requires left { ascent.old.left.limit ≡ length family.now }
     ensures len { IfOk result (λ rows. length rows ≡ length family.now) }
     ensures orders { IfOk result (λ rows. (c : ℕ) → c < length family.now → IsInitializationOrder family.now c
         (row_in rows c)) }
 {
     let mut rows = empty_lists(alloc, family.classes().len())?;
-    fill_orders(alloc, family, first, short, walk, &mut rows)?;
+    fill_orders(alloc, family, first, short, ascent, &mut rows)?;
     Ok(ClassLists { rows })
 }
 
@@ -61,15 +61,15 @@ fn fill_orders(
     family: &Family,
     first: &[bool],
     short: &ShortOrders,
-    walk: &mut Walk,
+    ascent: &mut Ascent,
     rows: &mut Vec<ClassNumbers>,
 ) -> Result<(), AllocError>
     requires fits { IsFamily family.now }
     requires parents { AreParentsWithin family.now }
     requires first { TellFirst family.now first.now }
     requires short { AreShort family.now short.now.rows.items }
-    requires entered { walk.old.entered.limit ≡ length family.now }
-    requires left { walk.old.left.limit ≡ length family.now }
+    requires entered { ascent.old.entered.limit ≡ length family.now }
+    requires left { ascent.old.left.limit ≡ length family.now }
     requires len { length rows.old.items ≡ length family.now }
     requires closed { IsClosed rows.old.items }
     ensures len { OnOk result (length rows.new.items ≡ length family.now) }
@@ -79,7 +79,7 @@ fn fill_orders(
 {
     let order = family.parents_first();
     for class in order {
-        let row = order_of(alloc, family, *class, first, short, walk)?;
+        let row = order_of(alloc, family, *class, first, short, ascent)?;
         rows[*class as usize] = row;
     }
     Ok(())
@@ -92,16 +92,16 @@ fn order_of(
     class: u32,
     first: &[bool],
     short: &ShortOrders,
-    walk: &mut Walk,
+    ascent: &mut Ascent,
 ) -> Result<ClassNumbers, AllocError>
     requires fits { IsFamily family.now }
     requires parents { AreParentsWithin family.now }
     requires few { length family.now ≤ 2 ^ 32 }
     requires first { TellFirst family.now first.now }
     requires short { AreShort family.now short.now.rows.items }
-    requires entered { walk.old.entered.limit ≡ length family.now }
-    requires left { walk.old.left.limit ≡ length family.now }
-    ensures room { KeepsRoom walk.old walk.new }
+    requires entered { ascent.old.entered.limit ≡ length family.now }
+    requires left { ascent.old.left.limit ≡ length family.now }
+    ensures room { KeepsRoom ascent.old ascent.new }
     ensures order { IfOk result (λ order. IsInitializationOrder family.now class order) }
     ensures within { IfOk result (All (λ c. c < length family.now)) }
 {
@@ -109,8 +109,8 @@ fn order_of(
         return Ok(ClassNumbers::new(Vec::new(alloc)));
     }
     let mut order = superclass_alone(alloc, family, class)?;
-    leave_above(family, class, short, walk)?;
-    add_marked(walk.left(), first, &mut order)?;
+    leave_above(family, class, short, ascent)?;
+    add_marked(ascent.left(), first, &mut order)?;
     Ok(ClassNumbers::new(order))
 }
 
@@ -127,25 +127,26 @@ fn superclass_alone(alloc: Global, family: &Family, class: u32) -> Result<Vec<u3
     Ok(numbers)
 }
 
-/// Has a walk leave what is initialized of the direct superinterfaces of a class and those above them: from the lists
-/// that they keep or, where one keeps none, by a walk through all that stands above.
+/// Has an ascent leave what is initialized of the direct superinterfaces of a class and those above them: from the
+/// lists
+/// that they keep or, where one keeps none, by an ascent through all that stands above.
 fn leave_above(
     family: &Family,
     class: u32,
     short: &ShortOrders,
-    walk: &mut Walk,
+    ascent: &mut Ascent,
 ) -> Result<(), AllocError>
     requires fits { IsFamily family.now }
     requires parents { AreParentsWithin family.now }
     requires short { AreShort family.now short.now.rows.items }
-    requires entered { walk.old.entered.limit ≡ length family.now }
-    requires left { walk.old.left.limit ≡ length family.now }
-    ensures room { KeepsRoom walk.old walk.new }
+    requires entered { ascent.old.entered.limit ≡ length family.now }
+    requires left { ascent.old.left.limit ≡ length family.now }
+    ensures room { KeepsRoom ascent.old ascent.new }
     ensures gathered { OnOk result
-        (Gathers family.now (interfaces_in family.now class) walk.new.left.items) }
+        (Gathers family.now (interfaces_in family.now class) ascent.new.left.items) }
 {
-    if gather(family, class, short.rows.as_slice(), walk)? {
+    if gather(family, class, short.rows.as_slice(), ascent)? {
         return Ok(());
     }
-    walk.above(family, family.interfaces(class))
+    ascent.above(family, family.interfaces(class))
 }

@@ -17,8 +17,9 @@ use built_in::class_id::ClassId;
 use std::alloc::{AllocError, Global};
 use std::marker::Model;
 
-/// Resolves references to members of a hierarchy. Those whose walks up would take long together are resolved ahead. For
-/// any other one what stands above a class is kept until another class is asked: a walk up serves all references to one
+/// Resolves references to members of a hierarchy. Those whose ascents up would take long together are resolved ahead.
+/// For
+/// any other one what stands above a class is kept until another class is asked: an ascent serves all references to one
 /// class that come one after the other.
 pub struct MemberResolver<'a> {
     hierarchy: &'a Hierarchy,

@@ -2,7 +2,8 @@
 //! to 5.4.3.4).
 //!
 //! For names and descriptors that an interface declares, what is known of 64 of their declarations is found of all
-//! classes in one way through them. That takes the place of a walk up for each reference, wherever these walks would be
+//! classes in one way through them. That takes the place of an ascent for each reference, wherever these ascents
+//! would be
 //! longer.
 
 ghost use Rattle.std.specs.Prelude.{◌≡◌, length, IfOk, IsTrue, OnOk};
@@ -31,8 +32,8 @@ use std::alloc::{AllocError, Global};
 /// What a way through all classes needs, whose room is used again by the next one.
 struct Ways {
     order: ParentsFirst,
-    /// By class: at most how many steps a walk up takes.
-    walks: Vec<usize>,
+    /// By class: at most how many steps an ascent takes.
+    ascents: Vec<usize>,
     own: Vec<Own>,
     rows: Vec<Known>,
 }
@@ -42,7 +43,7 @@ impl Drop for Ways {
     fn drop(self) {
         let Ways {
             order: _,
-            walks: _,
+            ascents: _,
             own: _,
             rows: _,
         } = self;
@@ -75,36 +76,41 @@ impl Ways {
     {
         let count = hierarchy.family().classes().len();
         let order = ParentsFirst::of_family(alloc, hierarchy.family())?;
-        let walks = walk_lengths(alloc, &order, count)?;
+        let ascents = ascent_lengths(alloc, &order, count)?;
         let own = vec![in alloc; Own { here: 0, same: 0 }; count]?;
         let rows = vec![in alloc; Known::none(); count]?;
         Ok(Ways {
             order,
-            walks,
+            ascents,
             own,
             rows,
         })
     }
 
-    /// Whether walks for some references, and a look at each class that declares a member, would take longer than ways
-    /// through all classes. A step of a walk takes some ten times as long as one of a way.
+    /// Whether ascents for some references, and a look at each class that declares a member, would take longer than
+    /// ways
+    /// through all classes. A step of an ascent takes some ten times as long as one of a way.
     fn are_shorter(&self, hierarchy: &Hierarchy, wanted: Wanted, group: &ReferenceGroup) -> bool {
         let steps = self.order.steps.len();
         let way = steps.saturating_add(self.order.parents.len());
         let way = way.saturating_add(group.declared.len());
         let ways = way.saturating_mul(group.declared.len() / BITS + 1);
-        let mut walks: usize = 0;
+        let mut ascents: usize = 0;
         for answer in &group.answers {
-            let steps = self.walks.get(answer.class as usize).copied().unwrap_or(0);
+            let steps = self
+                .ascents
+                .get(answer.class as usize)
+                .copied()
+                .unwrap_or(0);
             let row = hierarchy.noted(wanted, Some(answer.key)).len();
-            walks = walks.saturating_add(steps.saturating_add(row).saturating_mul(10));
+            ascents = ascents.saturating_add(steps.saturating_add(row).saturating_mul(10));
         }
-        walks > ways
+        ascents > ways
     }
 }
 
-/// By class: how many steps a walk up takes at most.
-fn walk_lengths(
+/// By class: how many steps an ascent takes at most.
+fn ascent_lengths(
     alloc: Global,
     order: &ParentsFirst,
     count: usize,
@@ -294,7 +300,7 @@ impl Hierarchy {
         }
     }
 
-    /// Adds what the references of a group resolve to, unless walks are shorter.
+    /// Adds what the references of a group resolve to, unless ascents are shorter.
     fn add_group(
         &self,
         kind: MemberKind,

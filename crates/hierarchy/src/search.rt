@@ -2,7 +2,7 @@
 
 ghost use Rattle.std.specs.Prelude.{◌≡◌, ◌<◌, ◌≤◌, [], ◌∷◌, ◌++◌, ℕ, List, Option, None, Some, IfOk};
 ghost use Rattle.std.specs.Bool.{MatchBool};
-ghost use Rattle.hierarchy.specs.declared.ancestors.Standing.{Standing as Found};
+ghost use Rattle.hierarchy.specs.declared.ancestors.PlacedMember.{PlacedMember as Found};
 ghost use Rattle.graph.specs.Seen.{AreDistinct};
 ghost use Rattle.hierarchy.specs.steps.Ancestors.{AreOf, IsFirst};
 ghost use Rattle.hierarchy.specs.steps.Reaches.{class_noted};
@@ -19,7 +19,7 @@ ghost use Rattle.loading.specs.Families.{Family as Classes};
 ghost use Rattle.loading.specs.declared.given.Superclass.TheVariants as super;
 ghost use Rattle.hierarchy.specs.steps.Above.{first_with};
 
-use crate::ancestors::{Ancestors, Standing};
+use crate::ancestors::{Ancestors, PlacedMember};
 use crate::hierarchy::Hierarchy;
 use crate::member::{DeclaredMember, Method};
 use crate::member_key::MemberKey;
@@ -119,9 +119,9 @@ impl Hierarchy {
         wanted: Wanted,
         ancestors: &Ancestors,
         key: Option<MemberKey>,
-        first: Option<Standing>,
+        first: Option<PlacedMember>,
         reach: &Reach,
-    ) -> Option<Standing>
+    ) -> Option<PlacedMember>
         ensures { (name : NameAndType) (asked : List ℕ) → IsLookup self.now.texts name key
             → AreDistinct ancestors.now.items
             → IsFirst (wanted_in wanted self.now.family name) ancestors.now.items asked first
@@ -139,7 +139,7 @@ impl Hierarchy {
             return first;
         }
         match self.find(wanted, class, key) {
-            Some(index) => Some(Standing {
+            Some(index) => Some(PlacedMember {
                 place,
                 member: DeclaredMember { class, index },
             }),
@@ -181,7 +181,7 @@ impl Hierarchy {
 }
 
 /// Whether something was found at a place or before it.
-fn stands_before(first: Option<Standing>, place: u32) -> bool
+fn stands_before(first: Option<PlacedMember>, place: u32) -> bool
     ensures { MatchBool result ((s : Found) × (first ≡ Some s) × (s.place ≤ place))
         ((s : Found) → first ≡ Some s → place < s.place) }
 {

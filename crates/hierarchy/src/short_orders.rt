@@ -6,10 +6,10 @@ ghost use Rattle.std.specs.List.{All};
 ghost use Rattle.loading.specs.Families.{IsFamily, AreParentsWithin, interfaces_in, is_interface_in};
 ghost use Rattle.hierarchy.specs.Search.{firsts};
 ghost use Rattle.hierarchy.specs.steps.InterfaceOrders.{AreShort, Gathers, TellFirst};
-ghost use Rattle.hierarchy.specs.steps.Walks.{KeepsRoom};
+ghost use Rattle.hierarchy.specs.steps.Ascents.{KeepsRoom};
 
+use crate::ascent::Ascent;
 use crate::initialized_first::add_marked;
-use crate::walk::Walk;
 use loading::family::Family;
 use loading::given::ClassNumbers;
 use std::alloc::{AllocError, Global};
@@ -29,15 +29,15 @@ impl ShortOrders {
         alloc: Global,
         family: &Family,
         first: &[bool],
-        walk: &mut Walk,
+        ascent: &mut Ascent,
     ) -> Result<ShortOrders, AllocError>
         requires first { TellFirst family.now first.now }
-        requires left { walk.old.left.limit ≡ length family.now }
-        ensures room { KeepsRoom walk.old walk.new }
+        requires left { ascent.old.left.limit ≡ length family.now }
+        ensures room { KeepsRoom ascent.old ascent.new }
         ensures short { IfOk result (λ short. AreShort family.now short.rows.items) }
     {
         let mut rows = no_lists(alloc, family.classes().len())?;
-        fill(alloc, family, first, walk, &mut rows)?;
+        fill(alloc, family, first, ascent, &mut rows)?;
         Ok(ShortOrders { rows })
     }
 }
@@ -58,21 +58,21 @@ fn fill(
     alloc: Global,
     family: &Family,
     first: &[bool],
-    walk: &mut Walk,
+    ascent: &mut Ascent,
     rows: &mut Vec<Option<ClassNumbers>>,
 ) -> Result<(), AllocError>
     requires fits { IsFamily family.now }
     requires parents { AreParentsWithin family.now }
     requires few { length family.now ≤ 2 ^ 32 }
     requires first { TellFirst family.now first.now }
-    requires left { walk.old.left.limit ≡ length family.now }
+    requires left { ascent.old.left.limit ≡ length family.now }
     requires short { AreShort family.now rows.old.items }
-    ensures room { KeepsRoom walk.old walk.new }
+    ensures room { KeepsRoom ascent.old ascent.new }
     ensures short { OnOk result (AreShort family.now rows.new.items) }
 {
     for class in family.parents_first() {
         if family.is_interface(*class) {
-            let row = list_of(alloc, family, *class, first, rows.as_slice(), walk)?;
+            let row = list_of(alloc, family, *class, first, rows.as_slice(), ascent)?;
             rows[*class as usize] = row;
         }
     }
@@ -86,7 +86,7 @@ fn list_of(
     class: u32,
     first: &[bool],
     rows: &[Option<ClassNumbers>],
-    walk: &mut Walk,
+    ascent: &mut Ascent,
 ) -> Result<Option<ClassNumbers>, AllocError>
     requires fits { IsFamily family.now }
     requires parents { AreParentsWithin family.now }
@@ -94,50 +94,51 @@ fn list_of(
     requires class { class < length family.now }
     requires interface { is_interface_in family.now class ≡ true }
     requires first { TellFirst family.now first.now }
-    requires left { walk.old.left.limit ≡ length family.now }
+    requires left { ascent.old.left.limit ≡ length family.now }
     requires short { AreShort family.now rows.now }
-    ensures room { KeepsRoom walk.old walk.new }
+    ensures room { KeepsRoom ascent.old ascent.new }
     ensures gathered { IfOk result (λ row. (list : List ℕ) → row ≡ Some list
         → Gathers family.now (class ∷ []) list) }
     ensures within { IfOk result (λ row. (list : List ℕ) → row ≡ Some list
         → All (λ c. c < length family.now) list) }
 {
-    if !gather(family, class, rows, walk)? {
+    if !gather(family, class, rows, ascent)? {
         return Ok(None);
     }
     if first[class as usize] {
-        walk.leave_all(&[class])?;
+        ascent.leave_all(&[class])?;
     }
-    if walk.left().len() > SHORT {
+    if ascent.left().len() > SHORT {
         return Ok(None);
     }
     let mut list = Vec::new(alloc);
-    add_marked(walk.left(), first, &mut list)?;
+    add_marked(ascent.left(), first, &mut list)?;
     Ok(Some(ClassNumbers::new(list)))
 }
 
-/// Has a walk leave what is initialized of the direct superinterfaces of a class and those above them, from the lists
+/// Has an ascent leave what is initialized of the direct superinterfaces of a class and those above them, from the
+/// lists
 /// that they keep. False where one of them keeps none.
 pub(crate) fn gather(
     family: &Family,
     class: u32,
     rows: &[Option<ClassNumbers>],
-    walk: &mut Walk,
+    ascent: &mut Ascent,
 ) -> Result<bool, AllocError>
     requires parents { AreParentsWithin family.now }
-    requires left { walk.old.left.limit ≡ length family.now }
+    requires left { ascent.old.left.limit ≡ length family.now }
     requires short { AreShort family.now rows.now }
-    ensures room { KeepsRoom walk.old walk.new }
-    ensures once { IfOk result (λ whole. whole ≡ true → walk.new.left.items ≡ firsts walk.new.left.items) }
+    ensures room { KeepsRoom ascent.old ascent.new }
+    ensures once { IfOk result (λ whole. whole ≡ true → ascent.new.left.items ≡ firsts ascent.new.left.items) }
     ensures gathered { IfOk result (λ whole. whole ≡ true
-        → Gathers family.now (interfaces_in family.now class) walk.new.left.items) }
+        → Gathers family.now (interfaces_in family.now class) ascent.new.left.items) }
 {
-    walk.forget();
+    ascent.forget();
     for interface in family.interfaces(class) {
         let Some(list) = &rows[*interface as usize] else {
             return Ok(false);
         };
-        walk.leave_all(list.as_slice())?;
+        ascent.leave_all(list.as_slice())?;
     }
     Ok(true)
 }

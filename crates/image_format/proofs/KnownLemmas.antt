@@ -3,7 +3,7 @@ use Rattle.std.proofs.Common.{◌≡◌, ◌⊎◌, inl, inr, ℕ, zero, suc, �
 use Rattle.std.proofs.Common.{refl}
 use Rattle.std.proofs.Common.{sym, ap, subst, arith}
 use Rattle.std.specs.List.{Contains}
-use Rattle.hierarchy.proofs.WalksOrderLemmas.{none_in_empty, in_front, in_rest, cons_cases}
+use Rattle.hierarchy.proofs.AscentsOrderLemmas.{none_in_empty, in_front, in_rest, cons_cases}
 use Rattle.image_format.specs.Values.{ImageValue}
 use Rattle.image_format.specs.Values as values
 

@@ -4,7 +4,7 @@ use Rattle.std.proofs.Common.{length, map, Option, Some, None, get_or, refl, sym
 use Rattle.std.proofs.Common.{if◌then◌else◌}
 use Rattle.std.specs.List.{Contains}
 use Rattle.std.proofs.lemmas.List.Elements.{Contains-append_left, Contains-append_right}
-use Rattle.hierarchy.proofs.WalksOrderLemmas.{none_in_empty, in_front, in_rest, cons_cases}
+use Rattle.hierarchy.proofs.AscentsOrderLemmas.{none_in_empty, in_front, in_rest, cons_cases}
 use Rattle.vm_state.proofs.ListLemmas.{tested}
 use Rattle.image_format.specs.Values.{ImageValue}
 use Rattle.image_format.specs.Values as values

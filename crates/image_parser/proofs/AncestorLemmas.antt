@@ -6,7 +6,7 @@ use Rattle.std.proofs.lemmas.Option.{slice_get_within}
 use Rattle.loading.specs.Families.{Family, parents_in, IsAncestor, AreParentsWithin, parent, further}
 use Rattle.loading.specs.steps.Linking.{IsLeastClassOnCycle}
 use Rattle.loading.proofs.LinkingClassLemmas.{child_of}
-use Rattle.hierarchy.proofs.WalksOrderLemmas.{none_in_empty, in_front, in_rest, cons_cases}
+use Rattle.hierarchy.proofs.AscentsOrderLemmas.{none_in_empty, in_front, in_rest, cons_cases}
 
 -- it holds or it does not
 abbrev pub Known : Type 0 → Type 0

@@ -39,7 +39,7 @@ use Rattle.loading.proofs.LinkingFileLemmas.{IsBad, first_bad, family_fits, fami
 use Rattle.loading.proofs.LinkingFileLemmas.{cycle_fails_made}
 use Rattle.loading.proofs.LinkingPlaceLemmas.{NoneBefore, none_more, member_at}
 use Rattle.loading.proofs.OwnNamesLemmas.{own_name}
-use Rattle.hierarchy.proofs.WalksOrderLemmas.{none_in_empty, in_front, in_rest, cons_cases}
+use Rattle.hierarchy.proofs.AscentsOrderLemmas.{none_in_empty, in_front, in_rest, cons_cases}
 use Rattle.image_format.proofs.NamesLemmas.{name_fits}
 use Rattle.loading.specs.steps.BuiltIns.{all_built_in}
 use Rattle.image_parser.proofs.AncestorLemmas.{Known, first_on_cycle}

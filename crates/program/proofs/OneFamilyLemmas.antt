@@ -20,7 +20,7 @@ use Rattle.loading.proofs.FilesMovedLemmas.{family_moved, moved_back}
 use Rattle.loading.proofs.NamesLemmas.{precedes_not_back, precedes_not_same}
 use Rattle.loading.proofs.PlaceLemmas.{contains_at, place_in, mapped_at}
 use Rattle.loading.proofs.UniquenessLemmas.{one_class}
-use Rattle.hierarchy.proofs.WalksOrderLemmas.{none_in_empty, in_front, in_rest, cons_cases}
+use Rattle.hierarchy.proofs.AscentsOrderLemmas.{none_in_empty, in_front, in_rest, cons_cases}
 use Rattle.program.specs.Laws.{OneFamily}
 use Rattle.program.proofs.SameListsLemmas.{same_list}
 

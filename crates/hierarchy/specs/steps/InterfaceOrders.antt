@@ -4,7 +4,7 @@ use Rattle.std.specs.List.{All, filter}
 use Rattle.loading.specs.Families.{Family}
 use Rattle.hierarchy.specs.Search.{SuperinterfacesFirst, firsts}
 use Rattle.hierarchy.specs.Initialization.{is_initialized_first}
-use Rattle.hierarchy.specs.steps.Walks.{ParentsBefore}
+use Rattle.hierarchy.specs.steps.Ascents.{ParentsBefore}
 
 -- To a list were added, of some interfaces and those above them, those that declare a default method, each once and
 -- after its own superinterfaces.

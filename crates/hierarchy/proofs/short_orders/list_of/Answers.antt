@@ -13,8 +13,8 @@ pub returns-clause-gathered : goal.returns-clause-gathered
 returns-clause-gathered c list is =
     let family = c.args.family.now in
     let class = c.args.class in
-    let seen : List ℕ = c.gather.new.walk.left.items in
-    let left : List ℕ = c.if-first-class.walk.left.items in
+    let seen : List ℕ = c.gather.new.ascent.left.items in
+    let left : List ℕ = c.if-first-class.ascent.left.items in
     let whole : c.in_ok-gather.field-0 ≡ true = c.if-not-branch.false in
     let above : Gathers family (interfaces_in family class) seen = c.in_ok-gather.ensures.gathered whole in
     let told : get_or c.args.first.now class false ≡ is_initialized_first family class =
@@ -24,11 +24,11 @@ returns-clause-gathered c list is =
       | then-first-class+in_ok-leave_all w ↦
           gathers_own family class seen left true c.requires.fits c.requires.interface above
           (sym told ∙ w.if-first-class.true)
-          (ap (λ v. v.left.items) w.walk-is ∙ w.in_ok-leave_all.ensures.left)
+          (ap (λ v. v.left.items) w.ascent-is ∙ w.in_ok-leave_all.ensures.left)
       | else-first-class w ↦
           gathers_own family class seen left false c.requires.fits c.requires.interface above
           (sym told ∙ w.if-first-class.false)
-          (ap (λ v. v.left.items) w.walk-is ∙ c.in_ok-gather.ensures.once whole ∙ ap firsts (sym (append-nil seen)))
+          (ap (λ v. v.left.items) w.ascent-is ∙ c.in_ok-gather.ensures.once whole ∙ ap firsts (sym (append-nil seen)))
     ] in
     let kept : c.new.result ≡ [] ++ filter (λ i. get_or c.args.first.now i false) left =
     c.new.ensures ∙ c.in_ok-add_marked.ensures.added

@@ -7,7 +7,7 @@ use Rattle.hierarchy.proofs.ancestors.Ancestors.place.Goals as goal
 pub returns-then-has : goal.returns-then-has
 returns-then-has c =
     let class = c.args.class in
-    let items : List ℕ = c.self.inside.walk.entered.items in
+    let items : List ℕ = c.self.inside.ascent.entered.items in
     let among : Contains items class =
     subst (λ (v : Seen). Contains v.items class) c.entered.ensures (c.has.ensures.0 c.if-has.true) in
     subst (λ (a : AncestorList). slice_get a.items c.place_in.result ≡ Some class) c.self.view_is

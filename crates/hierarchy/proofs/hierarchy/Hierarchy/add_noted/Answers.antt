@@ -6,7 +6,7 @@ use Rattle.hierarchy.specs.steps.Reaches.{class_noted}
 use Rattle.hierarchy.specs.declared.declarations.Declaration.{Declaration}
 use Rattle.hierarchy.specs.declared.member.DeclaredMember.{DeclaredMember}
 use Rattle.hierarchy.proofs.DeclarationsLemmas.{goes_one}
-use Rattle.hierarchy.proofs.WalksOrderLemmas.{none_in_empty}
+use Rattle.hierarchy.proofs.AscentsOrderLemmas.{none_in_empty}
 use Rattle.hierarchy.proofs.hierarchy.Hierarchy.add_noted.Goals as goal
 
 pub returns-clause-goes : goal.returns-clause-goes

@@ -1,6 +1,6 @@
 use Rattle.std.proofs.Common.{◌≡◌, ℕ, Option, None, [], ◌∷◌, subst}
 use Rattle.loading.specs.Families.{Family, parents_in}
-use Rattle.hierarchy.specs.steps.Walks.{IsSearchOrder}
+use Rattle.hierarchy.specs.steps.Ascents.{IsSearchOrder}
 use Rattle.hierarchy.proofs.AncestorsLemmas.{ancestors_are}
 use Rattle.hierarchy.proofs.AlongSuperclassesLemmas.{found_nowhere}
 use Rattle.hierarchy.proofs.DefaultsLemmas.{no_method}

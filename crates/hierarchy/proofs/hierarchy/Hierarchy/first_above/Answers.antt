@@ -2,7 +2,7 @@ use Rattle.std.proofs.Common.{ℕ, Option, None, [], ◌∷◌, sym, subst}
 use Rattle.hierarchy.specs.steps.HierarchyTables.{wanted_in}
 use Rattle.loading.specs.Families.{Family, parents_in}
 use Rattle.hierarchy.specs.Search.{Search, here}
-use Rattle.hierarchy.specs.steps.Walks.{IsSearchOrder}
+use Rattle.hierarchy.specs.steps.Ascents.{IsSearchOrder}
 use Rattle.hierarchy.specs.declared.member.DeclaredMember.{DeclaredMember}
 use Rattle.hierarchy.proofs.AlongSuperclassesLemmas.{found_nowhere}
 use Rattle.hierarchy.proofs.AncestorsLemmas.{search_above}

@@ -3,7 +3,7 @@ use Rattle.std.proofs.lemmas.List.{take_all}
 use Rattle.hierarchy.specs.steps.Ancestors.{IsFirst}
 use Rattle.hierarchy.specs.steps.HierarchyTables.{wanted_in}
 use Rattle.hierarchy.specs.steps.Reaches.{classes_noted}
-use Rattle.hierarchy.specs.declared.ancestors.Standing.{Standing}
+use Rattle.hierarchy.specs.declared.ancestors.PlacedMember.{PlacedMember}
 use Rattle.hierarchy.specs.declared.reach_table.Reach.{Reach}
 use Rattle.hierarchy.proofs.FirstAboveLemmas.{first_of_none, first_is, none_is_first}
 use Rattle.hierarchy.proofs.NotedLemmas.{noted_next}
@@ -28,7 +28,7 @@ returns-in-Some c = λ name is once.
     let items : List ℕ = c.args.ancestors.now.items in
     let row : List Reach = c.noted-row.result.now in
     first_is own items (classes_noted row) (λ i k has. c.noted-row.ensures name i k is has) c.in-Some.standing
-    (subst (λ (o : Option Standing). IsFirst own items (classes_noted row) o) c.in-Some.is
+    (subst (λ (o : Option PlacedMember). IsFirst own items (classes_noted row) o) c.in-Some.is
     (subst (λ (l : List Reach). IsFirst own items (classes_noted l) c.loop-reach.first)
     (take_all c.loop-reach.reach-index row c.loop-reach-test.false) (c.loop-reach.invariant name is once)))
 
@@ -38,6 +38,6 @@ returns-in-None c = λ name is once.
     let items : List ℕ = c.args.ancestors.now.items in
     let row : List Reach = c.noted-row.result.now in
     none_is_first own items (classes_noted row) (λ i k has. c.noted-row.ensures name i k is has)
-    (subst (λ (o : Option Standing). IsFirst own items (classes_noted row) o) c.in-None.is
+    (subst (λ (o : Option PlacedMember). IsFirst own items (classes_noted row) o) c.in-None.is
     (subst (λ (l : List Reach). IsFirst own items (classes_noted l) c.loop-reach.first)
     (take_all c.loop-reach.reach-index row c.loop-reach-test.false) (c.loop-reach.invariant name is once)))

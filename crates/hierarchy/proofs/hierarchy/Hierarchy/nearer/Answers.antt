@@ -2,7 +2,7 @@ use Rattle.std.proofs.Common.{ℕ, Option, List, Some, ◌++◌, sym, subst}
 use Rattle.hierarchy.specs.steps.Ancestors.{IsFirst}
 use Rattle.hierarchy.specs.steps.HierarchyTables.{wanted_in}
 use Rattle.hierarchy.specs.steps.Reaches.{class_noted}
-use Rattle.hierarchy.specs.declared.ancestors.Standing.{Standing}
+use Rattle.hierarchy.specs.declared.ancestors.PlacedMember.{PlacedMember}
 use Rattle.hierarchy.specs.declared.member.DeclaredMember.{DeclaredMember}
 use Rattle.hierarchy.proofs.FirstAboveLemmas.{first_without, first_lacking, first_before, first_moves}
 use Rattle.hierarchy.proofs.hierarchy.Hierarchy.nearer.Goals as goal
@@ -26,7 +26,7 @@ pub returns-in-Some-find : goal.returns-in-Some-find
 returns-in-Some-find c = λ name asked is once are.
     let own : ℕ → Option ℕ = wanted_in c.args.wanted c.args.self.now.family name in
     let items : List ℕ = c.args.ancestors.now.items in
-    let found : Standing =
+    let found : PlacedMember =
     record {
       place = c.in-Some-place.place;
       member = record { class = c.in-Some.member.class; index = c.in-Some-find.index };

@@ -1,4 +1,4 @@
--- Walks up a family, depth first (JVMS 5.4.3.2, 5.5).
+-- Ascents of a family, depth first (JVMS 5.4.3.2, 5.5).
 use Rattle.std.specs.Prelude.{◌≡◌, ℕ, ◌+◌, ◌-◌, ◌*◌, ◌<◌, ◌≤◌, ◌⊎◌, ◌↔◌, List, [], ◌∷◌, ◌++◌, Option, length}
 use Rattle.std.specs.Prelude.{reverse}
 use Rattle.std.specs.List.{All, Contains}
@@ -7,9 +7,9 @@ use Rattle.loading.specs.Families.{Family, IsFamily, IsAncestor, parents_in}
 use Rattle.hierarchy.specs.Search.{Search, firsts}
 use Rattle.hierarchy.specs.steps.Above.{or_else, first_with, IsAmongOrAbove}
 use Rattle.hierarchy.specs.declared.member.DeclaredMember.{DeclaredMember}
-use Rattle.hierarchy.specs.declared.walk.Visit.{Visit}
-use Rattle.hierarchy.specs.declared.walk.Walk.{Walk}
-use Rattle.hierarchy.specs.declared.walk.Visit.TheVariants.{Enter, Leave}
+use Rattle.hierarchy.specs.declared.ascent.Visit.{Visit}
+use Rattle.hierarchy.specs.declared.ascent.Ascent.{Ascent}
+use Rattle.hierarchy.specs.declared.ascent.Visit.TheVariants.{Enter, Leave}
 
 -- Some classes in order, each after its parents, which stand there once for each class that they are parents of.
 pub data ParentsBefore (family : Family) : List ℕ → List ℕ → Type 0 where
@@ -73,9 +73,10 @@ abbrev pub IsFinished : Family → List ℕ → ℕ → Type 0
 IsFinished family left c = (above : List ℕ) × ParentsBefore family (parents_in family c) above
     × ((a : ℕ) → Contains above a → Contains left a)
 
--- A walk from some classes, of which these visits are still to come. `whole` is what was left by now, again wherever a
+-- An ascent from some classes, of which these visits are still to come. `whole` is what was left by now, again
+-- wherever a
 -- class that was left came again.
-pub record Walking (family : Family) (from : List ℕ) (visits : List Visit) (entered left : List ℕ) : Type 0 where
+pub record Ascending (family : Family) (from : List ℕ) (visits : List Visit) (entered left : List ℕ) : Type 0 where
   pub fits : IsFamily family
   pub once : AreDistinct entered
   pub parents : ParentsCome family left visits
@@ -92,13 +93,13 @@ pub record Walking (family : Family) (from : List ℕ) (visits : List Visit) (en
 
 -- ---- its room
 
--- A walk has room for all classes of a family.
-pub record HasRoomFor (family : Family) (walk : Walk) : Type 0 where
-  pub entered : length family ≤ walk.entered.limit
-  pub left : length family ≤ walk.left.limit
+-- An ascent has room for all classes of a family.
+pub record HasRoomFor (family : Family) (ascent : Ascent) : Type 0 where
+  pub entered : length family ≤ ascent.entered.limit
+  pub left : length family ≤ ascent.left.limit
 
 -- It has as much room as before.
-pub record KeepsRoom (old new : Walk) : Type 0 where
+pub record KeepsRoom (old new : Ascent) : Type 0 where
   pub entered : new.entered.limit ≡ old.entered.limit
   pub left : new.left.limit ≡ old.left.limit
 
@@ -109,16 +110,16 @@ abbrev pub parents_count : Family → ℕ
 parents_count [] = 0
 parents_count (c ∷ family) = length c.interfaces + 1 + parents_count family
 
--- a bound for what a walk still does
+-- a bound for what an ascent still does
 abbrev pub work_left : Family → ℕ → List ℕ → List Visit → ℕ
 work_left family limit entered visits = (limit - length entered) * (parents_count family + 2) + length visits
 
--- what a walk is to do is of classes of a family
-abbrev pub IsWithin : Family → Walk → Type 0
-IsWithin family walk = All (λ visit. class_of visit < length family) (reverse walk.todo.items)
+-- what an ascent is to do is of classes of a family
+abbrev pub IsWithin : Family → Ascent → Type 0
+IsWithin family ascent = All (λ visit. class_of visit < length family) (reverse ascent.todo.items)
 
--- A step of a walk stays within a family, and nothing that it plans takes longer than what it did.
-pub record StepsWithin (family : Family) (old new : Walk) : Type 0 where
+-- A step of an ascent stays within a family, and nothing that it plans takes longer than what it did.
+pub record StepsWithin (family : Family) (old new : Ascent) : Type 0 where
   pub within : IsWithin family new
   pub nearer : work_left family new.entered.limit new.entered.items new.todo.items
       ≤ work_left family old.entered.limit old.entered.items old.todo.items

@@ -1,4 +1,4 @@
--- The steps of a walk up a family.
+-- The steps of an ascent of a family.
 use Rattle.std.proofs.Common.{◌≡◌, ℕ, zero, suc, ◌⊎◌, ◌↔◌, Bool, true, false, List, [], ◌∷◌, ◌++◌, length, map, reverse}
 use Rattle.std.proofs.Common.{Option, Some, None, refl, sym, ap, ◌∙◌, subst, inl, inr, arith, append-nil, append_assoc}
 use Rattle.std.proofs.Common.{drop, drop-cons, get_or, ◌+◌, ◌-◌, ◌*◌, ◌<◌, ◌≤◌}
@@ -17,16 +17,17 @@ use Rattle.loading.specs.declared.given.Superclass.{Superclass}
 use Rattle.loading.specs.declared.given.Superclass.TheVariants as super
 use Rattle.hierarchy.specs.Search.{Search, nothing, here, above}
 use Rattle.hierarchy.specs.steps.Above.{first_with, with_place, or_else, IsAmongOrAbove}
-use Rattle.hierarchy.specs.steps.Walks.{ParentsBefore, none, next, Leaves, done, enter, leave, ParentsCome, StandAbove}
-use Rattle.hierarchy.specs.steps.Walks.{IsFinished, Walking, IsPostorderOf, IsSearchOrder, to_enter, class_of}
-use Rattle.hierarchy.specs.steps.Walks.{parents_count, work_left}
+use Rattle.hierarchy.specs.steps.Ascents.{ParentsBefore, none, next, Leaves, done, enter, leave, ParentsCome}
+use Rattle.hierarchy.specs.steps.Ascents.{StandAbove}
+use Rattle.hierarchy.specs.steps.Ascents.{IsFinished, Ascending, IsPostorderOf, IsSearchOrder, to_enter, class_of}
+use Rattle.hierarchy.specs.steps.Ascents.{parents_count, work_left}
 use Rattle.hierarchy.specs.declared.member.DeclaredMember.{DeclaredMember}
-use Rattle.hierarchy.specs.declared.walk.Visit.{Visit}
-use Rattle.hierarchy.specs.declared.walk.Visit.TheVariants.{Enter, Leave}
+use Rattle.hierarchy.specs.declared.ascent.Visit.{Visit}
+use Rattle.hierarchy.specs.declared.ascent.Visit.TheVariants.{Enter, Leave}
 use Rattle.hierarchy.proofs.FirstsLemmas.{Contains-firsts, firsts_joins}
-use Rattle.hierarchy.proofs.WalksOrderLemmas.{none_in_empty, in_front, in_rest, cons_cases, cons_more, cons_within}
-use Rattle.hierarchy.proofs.WalksOrderLemmas.{firsts_known, among_before, before_among, or_else_none, first_with-push}
-use Rattle.hierarchy.proofs.WalksOrderLemmas.{search_again}
+use Rattle.hierarchy.proofs.AscentsOrderLemmas.{none_in_empty, in_front, in_rest, cons_cases, cons_more, cons_within}
+use Rattle.hierarchy.proofs.AscentsOrderLemmas.{firsts_known, among_before, before_among, or_else_none, first_with-push}
+use Rattle.hierarchy.proofs.AscentsOrderLemmas.{search_again}
 
 -- ---- what is planned, the next at the end of a list
 
@@ -218,10 +219,10 @@ module _ (family : Family) where
   to_enter_planned [] visits = refl
   to_enter_planned (p ∷ ps) visits = ap (λ (xs : List ℕ). p ∷ xs) (to_enter_planned ps visits)
 
-  -- ---- the start of a walk and its steps
+  -- ---- the start of an ascent and its steps
 
-  walk_first : (from : List ℕ) → IsFamily family → Walking family from (map Enter from ++ []) [] []
-  walk_first from fits = record {
+  ascent_first : (from : List ℕ) → IsFamily family → Ascending family from (map Enter from ++ []) [] []
+  ascent_first from fits = record {
     fits = fits;
     once = λ x. omega arith;
     parents = comes_entered [] from [] (λ more sub has. tt);
@@ -239,17 +240,17 @@ module _ (family : Family) where
         (to_enter_planned from [] ∙ append-nil from) h;
   }
 
-  pub walk_start : (from : List ℕ) (cleared visits : List Visit) (entered left : List ℕ) → cleared ≡ []
+  pub ascent_start : (from : List ℕ) (cleared visits : List Visit) (entered left : List ℕ) → cleared ≡ []
       → entered ≡ [] → left ≡ [] → visits ≡ map Enter from ++ reverse cleared → IsFamily family
-      → Walking family from visits entered left
-  walk_start from cleared visits entered left e f g planned fits = rw (planned, e, f, g) (walk_first from fits)
+      → Ascending family from visits entered left
+  ascent_start from cleared visits entered left e f g planned fits = rw (planned, e, f, g) (ascent_first from fits)
 
   -- a class that was not entered before
-  pub walk_enter : (from : List ℕ) (visits : List Visit) (entered left : List ℕ) (c : ℕ)
+  pub ascent_enter : (from : List ℕ) (visits : List Visit) (entered left : List ℕ) (c : ℕ)
       → (Contains entered c → ⊥)
-      → Walking family from (Enter c ∷ visits) entered left
-      → Walking family from (map Enter (parents_in family c) ++ Leave c ∷ visits) (entered ++ c ∷ []) left
-  walk_enter from visits entered left c absent w =
+      → Ascending family from (Enter c ∷ visits) entered left
+      → Ascending family from (map Enter (parents_in family c) ++ Leave c ∷ visits) (entered ++ c ∷ []) left
+  ascent_enter from visits entered left c absent w =
       let ps : List ℕ = parents_in family c in
       record {
         fits = w.fits;
@@ -300,9 +301,9 @@ module _ (family : Family) where
           (w.search own (Some (record { class = c; index = k })) (here e))
 
   -- a class that was entered before was left, since no class is its own ancestor
-  pub walk_again : (from : List ℕ) (visits : List Visit) (entered left : List ℕ) (c : ℕ) → Contains entered c
-      → Walking family from (Enter c ∷ visits) entered left → Walking family from visits entered left
-  walk_again from visits entered left c present w =
+  pub ascent_again : (from : List ℕ) (visits : List Visit) (entered left : List ℕ) (c : ℕ) → Contains entered c
+      → Ascending family from (Enter c ∷ visits) entered left → Ascending family from visits entered left
+  ascent_again from visits entered left c present w =
       let was_left : Contains left c = elim (w.known c present) [
         | inl is ↦ is
         | inr waits ↦ absurd (w.fits.acyclic c (w.above.0 c (not_entered c visits c waits)))
@@ -353,10 +354,10 @@ module _ (family : Family) where
   joined_only true old new c (absent, is) x h = Contains-push_cases old c x (rw is at h)
   joined_only false old new c (present, is) x h = inl (rw is at h)
 
-  pub walk_leave : (from : List ℕ) (visits : List Visit) (entered left new : List ℕ) (c : ℕ) (fresh : Bool)
+  pub ascent_leave : (from : List ℕ) (visits : List Visit) (entered left new : List ℕ) (c : ℕ) (fresh : Bool)
       → Joins fresh left c new
-      → Walking family from (Leave c ∷ visits) entered left → Walking family from visits entered new
-  walk_leave from visits entered left new c fresh joins w =
+      → Ascending family from (Leave c ∷ visits) entered left → Ascending family from visits entered new
+  ascent_leave from visits entered left new c fresh joins w =
       let keeps = joined_keeps fresh left new c joins in
       let has = joined_has fresh left new c joins in
       let only = joined_only fresh left new c joins in
@@ -391,9 +392,9 @@ module _ (family : Family) where
 
   -- ---- its end
 
-  pub walk_postorder : (from entered left : List ℕ) → Walking family from [] entered left
+  pub ascent_postorder : (from entered left : List ℕ) → Ascending family from [] entered left
       → IsPostorderOf family from left
-  walk_postorder from entered left w = record {
+  ascent_postorder from entered left w = record {
     all = w.whole;
     stand = subst (λ (xs : List ℕ). ParentsBefore family from xs) (append-nil w.whole) (w.stand [] done);
     first = w.first;
@@ -408,10 +409,10 @@ module _ (family : Family) where
         ((Contains-firsts is.all c).1 (among_before family is.stand c h)),
   )
 
-  pub walk_search : (from entered left : List ℕ) → Walking family from [] entered left
+  pub ascent_search : (from entered left : List ℕ) → Ascending family from [] entered left
       → IsSearchOrder family from entered
-  walk_search from entered left w =
-      let members = postorder_members from left (walk_postorder from entered left w) in
+  ascent_search from entered left w =
+      let members = postorder_members from left (ascent_postorder from entered left w) in
       record {
         once = w.once;
         members = λ c. (

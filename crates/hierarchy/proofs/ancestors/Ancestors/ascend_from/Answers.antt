@@ -1,7 +1,7 @@
 use Rattle.std.proofs.Common.{◌≤◌, length, subst}
 use Rattle.loading.specs.Families.{Family}
 use Rattle.hierarchy.proofs.AncestorsLemmas.{none_above}
-use Rattle.hierarchy.proofs.ancestors.Ancestors.walk_above.Goals as goal
+use Rattle.hierarchy.proofs.ancestors.Ancestors.ascend_from.Goals as goal
 
 pub returns-then-class-count-clause-order : goal.returns-then-class-count-clause-order
 returns-then-class-count-clause-order c =

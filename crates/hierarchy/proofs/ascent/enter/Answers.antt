@@ -3,27 +3,27 @@ use Rattle.std.proofs.lemmas.List.Elements.{All-cons}
 use Rattle.std.proofs.lemmas.Result.{on_ok_weaker}
 use Rattle.graph.specs.Seen.{Joins}
 use Rattle.loading.specs.Families.{parents_in}
-use Rattle.hierarchy.specs.steps.Walks.{class_of}
-use Rattle.hierarchy.specs.declared.walk.Visit.TheVariants.{Enter, Leave}
-use Rattle.hierarchy.proofs.WalksLemmas.{walk_enter, walk_again, planned_within, enter_nearer, planned_after}
-use Rattle.hierarchy.proofs.walk.enter.Goals as goal
+use Rattle.hierarchy.specs.steps.Ascents.{class_of}
+use Rattle.hierarchy.specs.declared.ascent.Visit.TheVariants.{Enter, Leave}
+use Rattle.hierarchy.proofs.AscentsLemmas.{ascent_enter, ascent_again, planned_within, enter_nearer, planned_after}
+use Rattle.hierarchy.proofs.ascent.enter.Goals as goal
 
-pub returns-then-not-branch-clause-walking : goal.returns-then-not-branch-clause-walking
-returns-then-not-branch-clause-walking c =
-    let joins : Joins false c.args.walk.now.entered.items c.args.class c.add.new.self.items =
-    subst (λ (b : Bool). Joins b c.args.walk.now.entered.items c.args.class c.add.new.self.items) c.if-not-branch.true
+pub returns-then-not-branch-clause-ascending : goal.returns-then-not-branch-clause-ascending
+returns-then-not-branch-clause-ascending c =
+    let joins : Joins false c.args.ascent.now.entered.items c.args.class c.add.new.self.items =
+    subst (λ (b : Bool). Joins b c.args.ascent.now.entered.items c.args.class c.add.new.self.items) c.if-not-branch.true
     c.in_ok-add.ensures.ok in
     λ from w. rw joins.1
-    (walk_again c.args.family.now from (reverse c.args.walk.now.todo.items) c.args.walk.now.entered.items
-    c.args.walk.now.left.items c.args.class joins.0 w)
+    (ascent_again c.args.family.now from (reverse c.args.ascent.now.todo.items) c.args.ascent.now.entered.items
+    c.args.ascent.now.left.items c.args.class joins.0 w)
 
 pub returns-clause-steps : goal.returns-clause-steps
 returns-clause-steps c =
     let family = c.args.family.now in
     let class = c.args.class in
-    let todo = c.args.walk.now.todo.items in
-    let joins : Joins true c.args.walk.now.entered.items class c.add.new.self.items =
-    subst (λ (b : Bool). Joins b c.args.walk.now.entered.items class c.add.new.self.items) c.if-not-branch.false
+    let todo = c.args.ascent.now.todo.items in
+    let joins : Joins true c.args.ascent.now.entered.items class c.add.new.self.items =
+    subst (λ (b : Bool). Joins b c.args.ascent.now.entered.items class c.add.new.self.items) c.if-not-branch.false
     c.in_ok-add.ensures.ok in
     let after = λ (planned : reverse c.plan_parents.new.todo.items
     ≡ map Enter (parents_in family class) ++ reverse c.push.new.self.items).
@@ -36,25 +36,26 @@ returns-clause-steps c =
           (All-cons (λ visit. class_of visit < length family) (Leave class) (reverse todo) c.requires.class
           c.requires.within));
       nearer = rw c.add.ensures.limit
-          (enter_nearer family c.args.walk.now.entered.limit class c.args.walk.now.entered.items
+          (enter_nearer family c.args.ascent.now.entered.limit class c.args.ascent.now.entered.items
           c.add.new.self.items todo c.plan_parents.new.todo.items joins.1
           (rw c.add.ensures.limit at c.add.ensures.small) (after planned));
     })
     c.plan_parents.ensures
 
-pub returns-clause-walking : goal.returns-clause-walking
-returns-clause-walking c =
-    let joins : Joins true c.args.walk.now.entered.items c.args.class c.add.new.self.items =
-    subst (λ (b : Bool). Joins b c.args.walk.now.entered.items c.args.class c.add.new.self.items) c.if-not-branch.false
+pub returns-clause-ascending : goal.returns-clause-ascending
+returns-clause-ascending c =
+    let joins : Joins true c.args.ascent.now.entered.items c.args.class c.add.new.self.items =
+    subst (λ (b : Bool). Joins b c.args.ascent.now.entered.items c.args.class c.add.new.self.items)
+    c.if-not-branch.false
     c.in_ok-add.ensures.ok in
     on_ok_weaker c.plan_parents.result
     (λ (planned : reverse c.plan_parents.new.todo.items
     ≡ map Enter (parents_in c.args.family.now c.args.class) ++ reverse c.push.new.self.items).
     λ from w. rw (
-      planned_after c.args.class c.args.walk.now.todo.items c.push.new.self.items _ _
+      planned_after c.args.class c.args.ascent.now.todo.items c.push.new.self.items _ _
           c.in_ok-push.ensures.items planned,
       joins.1,
     )
-    (walk_enter c.args.family.now from (reverse c.args.walk.now.todo.items) c.args.walk.now.entered.items
-    c.args.walk.now.left.items c.args.class joins.0 w))
+    (ascent_enter c.args.family.now from (reverse c.args.ascent.now.todo.items) c.args.ascent.now.entered.items
+    c.args.ascent.now.left.items c.args.class joins.0 w))
     c.plan_parents.ensures

@@ -1,7 +1,7 @@
 use Rattle.std.proofs.Common.{◌≡◌, ℕ, ◌++◌, drop, map, reverse, subst, arith}
-use Rattle.hierarchy.specs.declared.walk.Visit.TheVariants.{Enter}
-use Rattle.hierarchy.proofs.WalksLemmas.{planned_none, planned_one}
-use Rattle.hierarchy.proofs.walk.plan.Goals as goal
+use Rattle.hierarchy.specs.declared.ascent.Visit.TheVariants.{Enter}
+use Rattle.hierarchy.proofs.AscentsLemmas.{planned_none, planned_one}
+use Rattle.hierarchy.proofs.ascent.plan.Goals as goal
 
 pub loop-index-init : goal.loop-index-init
 loop-index-init c = planned_none c.args.classes.now c.args.todo.now.items

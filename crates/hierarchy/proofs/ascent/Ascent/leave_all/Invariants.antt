@@ -1,6 +1,6 @@
 use Rattle.std.proofs.Common.{◌≡◌, ◌++◌, take}
 use Rattle.hierarchy.specs.Search.{firsts}
-use Rattle.hierarchy.proofs.walk.Walk.leave_all.Given as goal
+use Rattle.hierarchy.proofs.ascent.Ascent.leave_all.Given as goal
 
 abbrev pub invariant-loop-class : goal.invariant-loop-class
 invariant-loop-class l = record {

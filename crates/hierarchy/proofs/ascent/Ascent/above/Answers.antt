@@ -1,10 +1,10 @@
 use Rattle.std.proofs.Common.{reverse}
 use Rattle.std.proofs.lemmas.Result.{on_ok_weaker}
-use Rattle.hierarchy.proofs.WalksLemmas.{started_within, walk_start, walk_postorder, walk_search}
-use Rattle.hierarchy.proofs.walk.Walk.above.Goals as goal
+use Rattle.hierarchy.proofs.AscentsLemmas.{started_within, ascent_start, ascent_postorder, ascent_search}
+use Rattle.hierarchy.proofs.ascent.Ascent.above.Goals as goal
 
-pub walk_on-requires-clause-within : goal.walk_on-requires-clause-within
-walk_on-requires-clause-within c =
+pub go_on-requires-clause-within : goal.go_on-requires-clause-within
+go_on-requires-clause-within c =
     started_within c.args.family.now c.args.from.now c.forget.new.self.todo.items (reverse c.plan.new.todo.items)
     c.forget.ensures.todo c.in_ok-plan.ensures c.requires.from
 
@@ -12,20 +12,20 @@ pub returns-clause-entered : goal.returns-clause-entered
 returns-clause-entered c =
     let family = c.args.family.now in
     let from = c.args.from.now in
-    on_ok_weaker c.walk_on.result
-    (λ walking. walk_search family from c.walk_on.new.walk.entered.items c.walk_on.new.walk.left.items
-    (walking from (walk_start family from c.forget.new.self.todo.items (reverse c.plan.new.todo.items)
+    on_ok_weaker c.go_on.result
+    (λ ascending. ascent_search family from c.go_on.new.ascent.entered.items c.go_on.new.ascent.left.items
+    (ascending from (ascent_start family from c.forget.new.self.todo.items (reverse c.plan.new.todo.items)
     c.forget.new.self.entered.items c.forget.new.self.left.items
     c.forget.ensures.todo c.forget.ensures.entered c.forget.ensures.left c.in_ok-plan.ensures c.requires.fits)))
-    c.walk_on.ensures.walking
+    c.go_on.ensures.ascending
 
 pub returns-clause-left : goal.returns-clause-left
 returns-clause-left c =
     let family = c.args.family.now in
     let from = c.args.from.now in
-    on_ok_weaker c.walk_on.result
-    (λ walking. walk_postorder family from c.walk_on.new.walk.entered.items c.walk_on.new.walk.left.items
-    (walking from (walk_start family from c.forget.new.self.todo.items (reverse c.plan.new.todo.items)
+    on_ok_weaker c.go_on.result
+    (λ ascending. ascent_postorder family from c.go_on.new.ascent.entered.items c.go_on.new.ascent.left.items
+    (ascending from (ascent_start family from c.forget.new.self.todo.items (reverse c.plan.new.todo.items)
     c.forget.new.self.entered.items c.forget.new.self.left.items
     c.forget.ensures.todo c.forget.ensures.entered c.forget.ensures.left c.in_ok-plan.ensures c.requires.fits)))
-    c.walk_on.ensures.walking
+    c.go_on.ensures.ascending

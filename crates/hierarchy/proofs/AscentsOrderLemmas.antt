@@ -1,4 +1,4 @@
--- Classes after their parents, as a walk leaves them, and searches past what was found before.
+-- Classes after their parents, as an ascent leaves them, and searches past what was found before.
 use Rattle.std.proofs.Common.{◌≡◌, ℕ, zero, suc, ◌⊎◌, List, [], ◌∷◌, ◌++◌, Option, Some, None, refl, sym, ap, ◌∙◌}
 use Rattle.std.proofs.Common.{subst, inl, inr, arith, false, ◌<◌, ◌≤◌, length, take, get_or, append-nil, append_assoc}
 use Rattle.std.specs.List.{Contains}
@@ -11,7 +11,7 @@ use Rattle.std.proofs.lemmas.Option.{slice_get_read}
 use Rattle.loading.specs.Families.{Family, IsAncestor, parent, further, parents_in, IsParentsFirst, superclasses_in}
 use Rattle.hierarchy.specs.Search.{Search, here, above, firsts}
 use Rattle.hierarchy.specs.steps.Above.{first_with, with_place, or_else, IsAmongOrAbove}
-use Rattle.hierarchy.specs.steps.Walks.{ParentsBefore, none, next, HasPostorder}
+use Rattle.hierarchy.specs.steps.Ascents.{ParentsBefore, none, next, HasPostorder}
 use Rattle.loading.proofs.FamiliesParentLemmas.{no_interfaces, no_superclasses}
 use Rattle.hierarchy.specs.declared.member.DeclaredMember.{DeclaredMember}
 use Rattle.hierarchy.proofs.AboveLemmas.{or_else_assoc, first_with-append, among_parents, further_on}
@@ -105,9 +105,9 @@ module _ (family : Family) where
     ]
   ]
 
--- ---- walks end
+-- ---- ascents end
 
--- each class has an end of the walk above it
+-- each class has an end of the ascent above it
 postorder_joined : (family : Family) (is : List ℕ)
     → ((i : ℕ) → Contains is i → HasPostorder family (parents_in family i)) → HasPostorder family is
 postorder_joined family [] each = ([], none)
@@ -116,7 +116,7 @@ postorder_joined family (i ∷ is) each =
     let rest = postorder_joined family is (λ j h. each j (in_rest i is j h)) in
     (own.0 ++ i ∷ rest.0, next own.1 rest.1)
 
--- all walks end, since there is an order in which each class stands after its parents
+-- all ascents end, since there is an order in which each class stands after its parents
 postorder_before : (family : Family) (order : List ℕ) → IsParentsFirst family order → (k : ℕ) → k ≤ length order
     → (c : ℕ) → Contains (take k order) c → HasPostorder family (parents_in family c)
 postorder_before family order first zero small c h = absurd (none_in_empty c h)

@@ -2,7 +2,7 @@ use Rattle.std.proofs.Common.{ℕ, List, [], ◌∷◌, ◌++◌, get_or, take, 
 use Rattle.std.proofs.lemmas.List.{take_more}
 use Rattle.hierarchy.specs.Search.{firsts}
 use Rattle.hierarchy.proofs.FirstsLemmas.{firsts_joins}
-use Rattle.hierarchy.proofs.walk.Walk.leave_all.Goals as goal
+use Rattle.hierarchy.proofs.ascent.Ascent.leave_all.Goals as goal
 
 pub loop-class-preserved : goal.loop-class-preserved
 loop-class-preserved c =

@@ -1,19 +1,19 @@
-//! Walks up a family, depth first (JVMS 5.4.3.2, 5.5).
+//! Ascents of a family, depth first (JVMS 5.4.3.2, 5.5).
 
 ghost use Rattle.std.specs.Prelude.{◌≡◌, ℕ, List, ◌<◌, ◌≤◌, [], ◌∷◌, ◌++◌, length, map, reverse, IfOk, OnOk};
 ghost use Rattle.std.specs.List.{All};
 ghost use Rattle.loading.specs.Families.{IsFamily, AreParentsWithin, parents_in};
 ghost use Rattle.loading.specs.declared.given.GivenClass.{GivenClass};
 ghost use Rattle.hierarchy.specs.Search.{firsts};
-ghost use Rattle.hierarchy.specs.steps.Walks.{HasRoomFor, KeepsRoom, Walking, IsSearchOrder, IsPostorderOf};
-ghost use Rattle.hierarchy.specs.steps.Walks.{IsWithin, StepsWithin, class_of};
+ghost use Rattle.hierarchy.specs.steps.Ascents.{HasRoomFor, KeepsRoom, Ascending, IsSearchOrder, IsPostorderOf};
+ghost use Rattle.hierarchy.specs.steps.Ascents.{IsWithin, StepsWithin, class_of};
 
 use graph::Visited;
 use loading::family::Family;
 use loading::given::Superclass;
 use std::alloc::{AllocError, Global};
 
-/// What a walk does next.
+/// What an ascent does next.
 #[derive(Clone, Copy)]
 enum Visit {
     /// Goes to a class, and then to those above it.
@@ -22,8 +22,8 @@ enum Visit {
     Leave(u32),
 }
 
-/// What stands above some classes of a family, found depth first. Its room is used again by the next walk.
-pub(crate) struct Walk {
+/// What stands above some classes of a family, found depth first. Its room is used again by the next ascent.
+pub(crate) struct Ascent {
     /// What is to be done, the next at the end.
     todo: Vec<Visit>,
     entered: Visited,
@@ -31,9 +31,9 @@ pub(crate) struct Walk {
 }
 
 // By hand, since a derived one is proved anew wherever one is let go.
-impl Drop for Walk {
+impl Drop for Ascent {
     fn drop(self) {
-        let Walk {
+        let Ascent {
             todo: _,
             entered: _,
             left: _,
@@ -41,16 +41,16 @@ impl Drop for Walk {
     }
 }
 
-impl Walk {
-    /// A walk that was nowhere, with room for `count` classes.
-    pub(crate) fn new(alloc: Global, count: usize) -> Result<Walk, AllocError>
-        ensures entered { IfOk result (λ walk. walk.entered.limit ≡ count) }
-        ensures left { IfOk result (λ walk. walk.left.limit ≡ count) }
-        ensures empty { IfOk result (λ walk. walk.entered.items ≡ []) }
+impl Ascent {
+    /// An ascent that was nowhere, with room for `count` classes.
+    pub(crate) fn new(alloc: Global, count: usize) -> Result<Ascent, AllocError>
+        ensures entered { IfOk result (λ ascent. ascent.entered.limit ≡ count) }
+        ensures left { IfOk result (λ ascent. ascent.left.limit ≡ count) }
+        ensures empty { IfOk result (λ ascent. ascent.entered.items ≡ []) }
     {
         let entered = Visited::new(alloc, count)?;
         let left = Visited::new(alloc, count)?;
-        Ok(Walk {
+        Ok(Ascent {
             todo: Vec::new(alloc),
             entered,
             left,
@@ -71,7 +71,7 @@ impl Walk {
         &self.left
     }
 
-    /// Walks from some classes in order, from each to its direct superinterfaces in order and then to its superclass.
+    /// Goes up from some classes in order, from each to its direct superinterfaces in order and then to its superclass.
     pub(crate) fn above(&mut self, family: &Family, from: &[u32]) -> Result<(), AllocError>
         requires fits { IsFamily family.now }
         requires parents { AreParentsWithin family.now }
@@ -83,10 +83,10 @@ impl Walk {
     {
         self.forget();
         plan(&mut self.todo, from)?;
-        walk_on(self, family)
+        go_on(self, family)
     }
 
-    /// Walks from the parents of a class.
+    /// Goes up from the parents of a class.
     pub(crate) fn above_class(&mut self, family: &Family, class: u32) -> Result<(), AllocError>
         requires fits { IsFamily family.now }
         requires parents { AreParentsWithin family.now }
@@ -97,7 +97,7 @@ impl Walk {
     {
         self.forget();
         plan_parents(&mut self.todo, family, class)?;
-        walk_on(self, family)
+        go_on(self, family)
     }
 
     /// Adds those of some classes that are not among those it left, as if it left them now.
@@ -128,71 +128,72 @@ impl Walk {
 }
 
 /// Goes on until nothing is left to do.
-fn walk_on(walk: &mut Walk, family: &Family) -> Result<(), AllocError>
+fn go_on(ascent: &mut Ascent, family: &Family) -> Result<(), AllocError>
     requires parents { AreParentsWithin family.now }
-    requires room { HasRoomFor family.now walk.old }
-    requires within { IsWithin family.now walk.old }
-    ensures room { KeepsRoom walk.old walk.new }
-    ensures walking { OnOk result ((from : List ℕ)
-        → Walking family.now from (reverse walk.old.todo.items) walk.old.entered.items walk.old.left.items
-        → Walking family.now from [] walk.new.entered.items walk.new.left.items) }
+    requires room { HasRoomFor family.now ascent.old }
+    requires within { IsWithin family.now ascent.old }
+    ensures room { KeepsRoom ascent.old ascent.new }
+    ensures ascending { OnOk result ((from : List ℕ)
+        → Ascending family.now from (reverse ascent.old.todo.items) ascent.old.entered.items ascent.old.left.items
+        → Ascending family.now from [] ascent.new.entered.items ascent.new.left.items) }
 {
-    while let Some(visit) = walk.todo.pop() {
-        step(walk, family, visit)?;
+    while let Some(visit) = ascent.todo.pop() {
+        step(ascent, family, visit)?;
     }
     Ok(())
 }
 
 /// Does what came next.
-fn step(walk: &mut Walk, family: &Family, visit: Visit) -> Result<(), AllocError>
+fn step(ascent: &mut Ascent, family: &Family, visit: Visit) -> Result<(), AllocError>
     requires parents { AreParentsWithin family.now }
-    requires room { HasRoomFor family.now walk.old }
+    requires room { HasRoomFor family.now ascent.old }
     requires visit { class_of visit < length family.now }
-    requires within { IsWithin family.now walk.old }
-    ensures room { KeepsRoom walk.old walk.new }
-    ensures steps { OnOk result (StepsWithin family.now walk.old walk.new) }
-    ensures walking { OnOk result ((from : List ℕ)
-        → Walking family.now from (visit ∷ reverse walk.old.todo.items) walk.old.entered.items walk.old.left.items
-        → Walking family.now from (reverse walk.new.todo.items) walk.new.entered.items walk.new.left.items) }
+    requires within { IsWithin family.now ascent.old }
+    ensures room { KeepsRoom ascent.old ascent.new }
+    ensures steps { OnOk result (StepsWithin family.now ascent.old ascent.new) }
+    ensures ascending { OnOk result ((from : List ℕ)
+        → Ascending family.now from (visit ∷ reverse ascent.old.todo.items) ascent.old.entered.items
+        ascent.old.left.items
+        → Ascending family.now from (reverse ascent.new.todo.items) ascent.new.entered.items ascent.new.left.items) }
 {
     match visit {
-        Visit::Enter(class) => enter(walk, family, class),
-        Visit::Leave(class) => leave(walk, class),
+        Visit::Enter(class) => enter(ascent, family, class),
+        Visit::Leave(class) => leave(ascent, class),
     }
 }
 
 /// Goes to a class, if it was not there.
-fn enter(walk: &mut Walk, family: &Family, class: u32) -> Result<(), AllocError>
+fn enter(ascent: &mut Ascent, family: &Family, class: u32) -> Result<(), AllocError>
     requires parents { AreParentsWithin family.now }
-    requires entered { length family.now ≤ walk.old.entered.limit }
+    requires entered { length family.now ≤ ascent.old.entered.limit }
     requires class { class < length family.now }
-    requires within { IsWithin family.now walk.old }
-    ensures room { KeepsRoom walk.old walk.new }
-    ensures steps { OnOk result (StepsWithin family.now walk.old walk.new) }
-    ensures walking { OnOk result ((from : List ℕ)
-        → Walking family.now from (Visit.Enter class ∷ reverse walk.old.todo.items) walk.old.entered.items
-        walk.old.left.items
-        → Walking family.now from (reverse walk.new.todo.items) walk.new.entered.items walk.new.left.items) }
+    requires within { IsWithin family.now ascent.old }
+    ensures room { KeepsRoom ascent.old ascent.new }
+    ensures steps { OnOk result (StepsWithin family.now ascent.old ascent.new) }
+    ensures ascending { OnOk result ((from : List ℕ)
+        → Ascending family.now from (Visit.Enter class ∷ reverse ascent.old.todo.items) ascent.old.entered.items
+        ascent.old.left.items
+        → Ascending family.now from (reverse ascent.new.todo.items) ascent.new.entered.items ascent.new.left.items) }
 {
-    if !walk.entered.add(class as usize)? {
+    if !ascent.entered.add(class as usize)? {
         return Ok(());
     }
-    walk.todo.push(Visit::Leave(class))?;
-    plan_parents(&mut walk.todo, family, class)
+    ascent.todo.push(Visit::Leave(class))?;
+    plan_parents(&mut ascent.todo, family, class)
 }
 
 /// Is done with a class.
-fn leave(walk: &mut Walk, class: u32) -> Result<(), AllocError>
-    requires class { class < walk.old.left.limit }
-    ensures entered { walk.new.entered ≡ walk.old.entered }
-    ensures left { walk.new.left.limit ≡ walk.old.left.limit }
-    ensures todo { walk.new.todo.items ≡ walk.old.todo.items }
-    ensures walking { OnOk result ((family : List GivenClass) → (from : List ℕ)
-        → Walking family from (Visit.Leave class ∷ reverse walk.old.todo.items) walk.old.entered.items
-        walk.old.left.items
-        → Walking family from (reverse walk.new.todo.items) walk.new.entered.items walk.new.left.items) }
+fn leave(ascent: &mut Ascent, class: u32) -> Result<(), AllocError>
+    requires class { class < ascent.old.left.limit }
+    ensures entered { ascent.new.entered ≡ ascent.old.entered }
+    ensures left { ascent.new.left.limit ≡ ascent.old.left.limit }
+    ensures todo { ascent.new.todo.items ≡ ascent.old.todo.items }
+    ensures ascending { OnOk result ((family : List GivenClass) → (from : List ℕ)
+        → Ascending family from (Visit.Leave class ∷ reverse ascent.old.todo.items) ascent.old.entered.items
+        ascent.old.left.items
+        → Ascending family from (reverse ascent.new.todo.items) ascent.new.entered.items ascent.new.left.items) }
 {
-    walk.left.add(class as usize)?;
+    ascent.left.add(class as usize)?;
     Ok(())
 }
 
