@@ -403,13 +403,13 @@ fn run_image<R: Threads + Wait + Sync, F: Files, W: Write + Send + Drop, E: Erro
         (W.contents result.2) (Request.Run words.now) result.0 }
 {
     match image_run::start(rt, alloc, words, files) {
-        Ok(start) => run_told(rt, alloc, start, words, files, out, errors),
+        Ok(start) => run_and_tell(rt, alloc, start, words, files, out, errors),
         Err(refusal) => (refuse(&refusal, errors), Held::Nothing, out),
     }
 }
 
 /// Runs the start of an image as the words say, and tells how its threads ended.
-fn run_told<R: Threads + Wait + Sync, F: Files, W: Write + Send + Drop, E: Errors>(
+fn run_and_tell<R: Threads + Wait + Sync, F: Files, W: Write + Send + Drop, E: Errors>(
     rt: &R,
     alloc: Global,
     start: ImageStart,

@@ -78,7 +78,7 @@ fn kept_names(regions: &Regions, row: &Pool, place: usize) -> bool
 }
 
 /// Whether those are that the objects of a row name.
-fn row_names(regions: &Regions, row: &Pool) -> bool
+fn pool_names(regions: &Regions, row: &Pool) -> bool
     ensures { Decides result (PoolNames regions.now (pool_by row.now)) }
 {
     for place in 0..row.len() {
@@ -105,7 +105,7 @@ fn fields_name(regions: &Regions, fields: &Fields, count: u32) -> bool
 fn region_names(regions: &Regions, region: &Region, count: u32) -> bool
     ensures { Decides result (RegionNames regions.now region.now count) }
 {
-    fields_name(regions, &region.fields, count) && row_names(regions, &region.objects)
+    fields_name(regions, &region.fields, count) && pool_names(regions, &region.objects)
 }
 
 /// Whether the region of a class, if it has one, names objects alone that there are.

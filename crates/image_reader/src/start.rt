@@ -36,7 +36,7 @@ fn copy_of(alloc: Global, image: &Image, class: u32) -> Result<Option<Region>, A
 }
 
 /// Puts the region of a class in place, if there is one. Where memory is refused nothing changes.
-fn place_region(
+fn put_region(
     alloc: Global,
     class: u32,
     region: Option<Region>,
@@ -58,13 +58,13 @@ fn place_copies(alloc: Global, image: &Image, shared: &mut Shared) -> Result<(),
     let _held = image.region(0);
     for class in 0..image.program().given_count() {
         let copy = copy_of(alloc, image, class)?;
-        place_region(alloc, class, copy, shared)?;
+        put_region(alloc, class, copy, shared)?;
     }
     Ok(())
 }
 
 /// Puts the regions of all classes of a program in place. Where memory is refused some may be in place.
-fn place_regions(
+fn put_regions(
     alloc: Global,
     program: &Program,
     regions: Regions,
@@ -77,7 +77,7 @@ fn place_regions(
     let mut left = regions;
     for class in 0..program.given_count() {
         let region = left.take(class);
-        place_region(alloc, class, region, shared)?;
+        put_region(alloc, class, region, shared)?;
     }
     Ok(())
 }
@@ -143,6 +143,6 @@ fn world_over(
 {
     let classes = entry_classes(alloc, program, entries)?;
     let mut shared = lazy_shared(alloc, program, classes.len())?;
-    place_regions(alloc, program, regions, &mut shared)?;
+    put_regions(alloc, program, regions, &mut shared)?;
     Ok(World::start(alloc, shared, classes.as_slice())?)
 }

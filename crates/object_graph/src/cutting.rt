@@ -45,7 +45,7 @@ fn found_objects(
 }
 
 /// The row of a class with those objects alone whose places are found.
-fn found_row(alloc: Global, found: &PlaceSet, class: u32, row: Pool) -> Result<Pool, AllocError>
+fn found_pool(alloc: Global, found: &PlaceSet, class: u32, row: Pool) -> Result<Pool, AllocError>
     ensures { IfOk result (λ kept. kept ≡ kept_row found.now class row) }
 {
     let (count, objects) = row.into_parts(alloc)?;
@@ -69,7 +69,7 @@ fn cut_class(
     match regions.take(class) {
         Some(region) => {
             let Region { fields, objects } = region;
-            let objects = found_row(alloc, found, class, objects)?;
+            let objects = found_pool(alloc, found, class, objects)?;
             regions.set(class, Region { fields, objects });
             Ok(())
         }

@@ -8,8 +8,8 @@ ghost use Rattle.place_set.specs.declared.set.Place.{Place as Found};
 ghost use Rattle.object_graph.specs.Idle.{AreReachedOf, IsFirstIdle};
 ghost use Rattle.object_graph.specs.steps.Places.{AreFound, IsReachedAt};
 
+use crate::pools::count_in;
 use crate::reach::reached;
-use crate::rows::count_in;
 use place_set::PlaceSet;
 use program::Program;
 use region_shape::regions::Regions;

@@ -8,8 +8,8 @@ mod image;
 pub mod laws;
 mod listing;
 mod name_set;
+mod pools;
 mod reach;
-mod rows;
 
 pub use counting::static_count;
 pub use idle::first_idle;

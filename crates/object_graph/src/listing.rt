@@ -11,7 +11,7 @@ ghost use Rattle.object_graph.specs.steps.Places.{row_in, Ascends};
 
 use crate::image::Image;
 use crate::name_set::{NameSet, ObjectName};
-use crate::rows::{count_in, object_at};
+use crate::pools::{count_in, object_at};
 use place_set::Place;
 use region_shape::regions::Regions;
 use std::alloc::{AllocError, Global};

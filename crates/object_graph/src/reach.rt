@@ -9,7 +9,7 @@ ghost use Rattle.object_graph.specs.steps.Places.{row_in, Ascends, IsPlaceOf, Ho
 ghost use Rattle.object_graph.specs.steps.Places.{HoldsPlace, IsReachedAt};
 
 use crate::counting::static_count;
-use crate::rows::{object_at, place_named};
+use crate::pools::{object_at, place_named};
 use place_set::{Place, PlaceSet};
 use program::Program;
 use region_shape::regions::Regions;

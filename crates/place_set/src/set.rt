@@ -96,7 +96,7 @@ impl PlaceSet {
 }
 
 /// The marks of a row; none where no room was kept for them.
-fn row_of(marks: &[Vec<bool>], row: usize) -> &[bool]
+fn marks_of(marks: &[Vec<bool>], row: usize) -> &[bool]
     ensures { result.now ≡ slice_index_or (rows_of marks.now) row [] }
 {
     match marks.get(row) {
@@ -109,7 +109,7 @@ fn row_of(marks: &[Vec<bool>], row: usize) -> &[bool]
 fn is_marked(marks: &[Vec<bool>], place: Place) -> bool
     ensures { result ≡ is_marked (rows_of marks.now) place }
 {
-    mark_in(row_of(marks, place.row as usize), place.index as usize)
+    mark_in(marks_of(marks, place.row as usize), place.index as usize)
 }
 
 /// The mark of an index; none past the end.
@@ -123,7 +123,7 @@ fn mark_in(row: &[bool], index: usize) -> bool
 }
 
 /// Keeps room for the marks of a row; nothing more is marked.
-fn keep_row(alloc: Global, marks: &mut Vec<Vec<bool>>, row: u32) -> Result<(), AllocError>
+fn keep_marks(alloc: Global, marks: &mut Vec<Vec<bool>>, row: u32) -> Result<(), AllocError>
     ensures same { (x : Found) → is_marked (rows_of marks.new.items) x ≡ is_marked (rows_of marks.old.items) x }
     ensures ok { OnOk result (row < length marks.new.items) }
 {
@@ -152,7 +152,7 @@ fn keep_room(alloc: Global, marks: &mut Vec<Vec<bool>>, place: Place) -> Result<
     ensures same { (x : Found) → is_marked (rows_of marks.new.items) x ≡ is_marked (rows_of marks.old.items) x }
     ensures ok { OnOk result (HasRoom (rows_of marks.new.items) place) }
 {
-    keep_row(alloc, marks, place.row)?;
+    keep_marks(alloc, marks, place.row)?;
     let row = &mut marks[place.row as usize];
     keep_index(row, place.index)
 }

@@ -6,13 +6,14 @@ use Rattle.cli.proofs.run.run_image.Goals as goal
 pub returns-in-Ok-clause-refused : goal.returns-in-Ok-clause-refused
 returns-in-Ok-clause-refused g c = λ refused.
     inr (of_image_run (g.F.Files.holds c.args.files.now) (world_of c.in-Ok.start.world)
-    (g.W.Write.contents c.args.out) (g.W.Write.contents c.run_told.result.2) c.args.words.now
-    c.in-Ok.start.program c.in-Ok.ensures.begun (c.run_told.ensures.refused refused))
+    (g.W.Write.contents c.args.out) (g.W.Write.contents c.run_and_tell.result.2) c.args.words.now
+    c.in-Ok.start.program c.in-Ok.ensures.begun (c.run_and_tell.ensures.refused refused))
 
 pub returns-in-Ok-clause-done : goal.returns-in-Ok-clause-done
 returns-in-Ok-clause-done g c = λ over.
     let before = g.W.Write.contents c.args.out in
-    let after = g.W.Write.contents c.run_told.result.2 in
-    let new = g.F.Files.holds c.run_told.new.files in
+    let after = g.W.Write.contents c.run_and_tell.result.2 in
+    let new = g.F.Files.holds c.run_and_tell.new.files in
     has_run_image (g.F.Files.holds c.args.files.now) (world_of c.in-Ok.start.world) before after new
-    c.args.words.now c.in-Ok.start.program c.run_told.result.0 c.in-Ok.ensures.begun (rw c.start.ensures.same at (c.run_told.ensures.done over))
+    c.args.words.now c.in-Ok.start.program c.run_and_tell.result.0 c.in-Ok.ensures.begun (rw c.start.ensures.same at
+    (c.run_and_tell.ensures.done over))

@@ -5,7 +5,7 @@ use Rattle.image_reader.proofs.start.place_copies.Goals as goal
 pub loop-class-preserved : goal.loop-class-preserved
 loop-class-preserved c =
     next_placed c.args.image.now c.loop-class.class _ _ _ c.loop-class.invariant
-    (rw c.in_ok-copy.ensures at c.in_ok-place_region.ensures)
+    (rw c.in_ok-copy.ensures at c.in_ok-put_region.ensures)
 
 pub returns : goal.returns
 returns c =

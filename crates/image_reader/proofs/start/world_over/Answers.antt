@@ -7,4 +7,4 @@ returns-clause-start c =
     let counted : length c.in_ok-classes.classes.items ≡ c.len.result = search rules in
     started (record { program = c.args.program.now; regions = c.args.regions }) c.args.entries.now
     c.in_ok-classes.classes.items c.len.result _ _ _ c.in_ok-classes.ensures.classes counted c.in_ok-shared.ensures
-    c.in_ok-place_regions.ensures (rw c.as_slice.ensures.value at c.in_ok-start.ensures c.args.program.now)
+    c.in_ok-put_regions.ensures (rw c.as_slice.ensures.value at c.in_ok-start.ensures c.args.program.now)

@@ -1,5 +1,5 @@
 use Rattle.object_graph.proofs.PlaceLemmas.{in_place, no_place}
-use Rattle.object_graph.proofs.rows.place_in.Goals as goal
+use Rattle.object_graph.proofs.pools.place_in.Goals as goal
 
 pub returns-in-Some : goal.returns-in-Some
 returns-in-Some c =

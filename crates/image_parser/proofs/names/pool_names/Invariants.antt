@@ -1,5 +1,5 @@
 use Rattle.image_parser.specs.reading.Named.{AllBelow, KeptNames}
-use Rattle.image_parser.proofs.names.row_names.Given as goal
+use Rattle.image_parser.proofs.names.pool_names.Given as goal
 
 abbrev pub invariant-loop-place : goal.invariant-loop-place
 invariant-loop-place l = AllBelow (KeptNames l.regions l.row) l.place

@@ -4,7 +4,7 @@ use Rattle.vm_state.specs.Shares.{shared_of}
 use Rattle.region_shape.specs.Regions.{region_in}
 use Rattle.object_graph.specs.Images.{start_image}
 use Rattle.image_reader.specs.steps.Placing.{first_classes}
-use Rattle.image_reader.proofs.start.place_regions.Given as goal
+use Rattle.image_reader.proofs.start.put_regions.Given as goal
 
 abbrev pub invariant-loop-class : goal.invariant-loop-class
 invariant-loop-class l = record {

@@ -1,6 +1,6 @@
 use Rattle.std.proofs.Common.{◌-◌, ◌+◌, vec_len}
 use Rattle.place_set.proofs.MarksLemmas.{MarkSame}
-use Rattle.place_set.proofs.set.keep_row.Given as goal
+use Rattle.place_set.proofs.set.keep_marks.Given as goal
 
 abbrev pub invariant-loop-alloc : goal.invariant-loop-alloc
 invariant-loop-alloc l = MarkSame l.fn.marks.items l.marks.items

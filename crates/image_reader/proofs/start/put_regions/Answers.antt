@@ -1,6 +1,6 @@
 use Rattle.std.proofs.Common.{◌≤◌, ◌∙◌, length, refl, arith}
 use Rattle.image_reader.proofs.PlacingLemmas.{all_placed, next_placed, none_placed, still_left}
-use Rattle.image_reader.proofs.start.place_regions.Goals as goal
+use Rattle.image_reader.proofs.start.put_regions.Goals as goal
 
 pub loop-class-init : goal.loop-class-init
 loop-class-init c = record {
@@ -15,7 +15,7 @@ loop-class-preserved c =
     record {
       placed =
           next_placed (record { program = c.args.program.now; regions = c.args.regions }) c.loop-class.class _ _ _
-          so_far.placed (rw taken at c.in_ok-place_region.ensures);
+          so_far.placed (rw taken at c.in_ok-put_region.ensures);
       left = λ d past.
           rw c.take-region.ensures.left (still_left c.loop-class.left c.loop-class.class d past)
           ∙ so_far.left d (omega (arith, past));
@@ -25,5 +25,6 @@ pub returns : goal.returns
 returns c =
     let past : length c.args.program.now.classes ≤ c.loop-class.class =
     rw c.given_count-class-end.ensures.value at c.loop-class-test.false in
-    all_placed (record { program = c.args.program.now; regions = c.args.regions }) c.requires c.loop-class.class _ _ past
+    all_placed (record { program = c.args.program.now; regions = c.args.regions }) c.requires c.loop-class.class _ _
+    past
     c.loop-class.invariant.placed

@@ -2,7 +2,7 @@ use Rattle.std.proofs.Common.{ℕ, List, subst, sym}
 use Rattle.vm_state.specs.declared.object.Object.{Object}
 use Rattle.vm_state.specs.Objects.{AscendsFrom}
 use Rattle.object_graph.proofs.KeptLemmas.{kept_rises}
-use Rattle.object_graph.proofs.cutting.found_row.Goals as goal
+use Rattle.object_graph.proofs.cutting.found_pool.Goals as goal
 
 pub of_objects-requires : goal.of_objects-requires
 of_objects-requires c =

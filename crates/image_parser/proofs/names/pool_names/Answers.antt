@@ -1,7 +1,7 @@
 use Rattle.std.proofs.Common.{arith, refl}
 use Rattle.image_parser.specs.reading.Named.{KeptNames}
 use Rattle.image_parser.proofs.NamesLemmas.{kept_of_pool, more_below, pool_of_kept}
-use Rattle.image_parser.proofs.names.row_names.Goals as goal
+use Rattle.image_parser.proofs.names.pool_names.Goals as goal
 
 pub loop-place-init : goal.loop-place-init
 loop-place-init c = λ k low. absurd (omega (arith, low))
