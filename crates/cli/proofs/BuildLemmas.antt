@@ -21,8 +21,8 @@ use Rattle.building.specs.declared.build.BuildFault.TheVariants as faults
 use Rattle.building.specs.Refusals.{IsOption, option, OptionsFail}
 use Rattle.wave_scheduler.specs.Outcomes.{CanWork}
 use Rattle.wave_scheduler.specs.declared.outcome.WaveFault.TheVariants as waves
-use Rattle.cli.specs.declared.fault.Refusal.{Refusal}
-use Rattle.cli.specs.declared.fault.Refusal.TheVariants as refusals
+use Rattle.cli.specs.declared.fault.CommandFault.{CommandFault}
+use Rattle.cli.specs.declared.fault.CommandFault.TheVariants as refusals
 use Rattle.cli.specs.Builds.{BuildFails, IsBudget, IsBuildOfClassFiles, class, link, options}
 use Rattle.cli.specs.Runs.{IsProgramOf, NotLinked}
 use Rattle.cli.specs.Runs as runs
@@ -89,11 +89,11 @@ of_workers Fails fault (inl memory) = inl memory
 of_workers Fails fault (inr fails) = inr (inr fails)
 
 module _ (texts : List (List ℕ)) (run build : Option (List ℕ)) (budget : ℕ) (range : IsBudget budget) where
-  unlinked_build : {r : Refusal} → NotLinked texts r → BuildFails texts run build budget (fault_of r)
+  unlinked_build : {r : CommandFault} → NotLinked texts r → BuildFails texts run build budget (fault_of r)
   unlinked_build (runs.class bad) = class range bad
   unlinked_build (runs.link are fails) = link range are fails
 
-  pub not_linked_build : (r : Refusal) (fault : BuildFault) → (r ≡ refusals.Memory) ⊎ NotLinked texts r
+  pub not_linked_build : (r : CommandFault) (fault : BuildFault) → (r ≡ refusals.Memory) ⊎ NotLinked texts r
       → fault ≡ fault_of r → (fault ≡ faults.Memory) ⊎ BuildFails texts run build budget fault
   not_linked_build r fault (inl memory) is = inl (is ∙ ap fault_of memory)
   not_linked_build r fault (inr wrong) is =
@@ -131,12 +131,12 @@ no_option_is_budget F (Ok built) wrong e = cc
 no_option_is_budget F (Err fault) (inl memory) e = cc
 no_option_is_budget F (Err fault) (inr wrong) e = no_budget_fault F fault wrong (cc)
 
-no_refusal_is_budget : (refusal : Refusal) → fault_of refusal ≢ faults.Budget
+no_refusal_is_budget : (refusal : CommandFault) → fault_of refusal ≢ faults.Budget
 no_refusal_is_budget (refusals.Class place fault) e = cc
 no_refusal_is_budget (refusals.Link fault) e = cc
 no_refusal_is_budget refusal e = cc
 
-pub refused_for_no_budget : (refusal : Refusal) (fault : BuildFault) (r : Result Built BuildFault)
+pub refused_for_no_budget : (refusal : CommandFault) (fault : BuildFault) (r : Result Built BuildFault)
     → fault ≡ fault_of refusal → r ≡ Err fault → r ≢ Err faults.Budget
 refused_for_no_budget refusal fault r is was told =
     let same : fault ≡ faults.Budget = cc in
@@ -151,12 +151,12 @@ no_workers_is_budget F (Err fault) (inl memory) e = cc
 no_workers_is_budget F (Err fault) (inr (inl workers)) e = cc
 no_workers_is_budget F (Err fault) (inr (inr wrong)) e = no_budget_fault F fault wrong (cc)
 
-no_refusal_is_wave : (refusal : Refusal) → fault_of refusal ≢ faults.Wave waves.Workers
+no_refusal_is_wave : (refusal : CommandFault) → fault_of refusal ≢ faults.Wave waves.Workers
 no_refusal_is_wave (refusals.Class place fault) e = cc
 no_refusal_is_wave (refusals.Link fault) e = cc
 no_refusal_is_wave refusal e = cc
 
-pub refused_for_no_workers : (refusal : Refusal) (fault : BuildFault) (r : Result Built BuildFault)
+pub refused_for_no_workers : (refusal : CommandFault) (fault : BuildFault) (r : Result Built BuildFault)
     → fault ≡ fault_of refusal → r ≡ Err fault → r ≢ Err (faults.Wave waves.Workers)
 refused_for_no_workers refusal fault r is was told =
     let same : fault ≡ faults.Wave waves.Workers = cc in

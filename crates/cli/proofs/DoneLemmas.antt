@@ -15,10 +15,10 @@ use Rattle.cli.specs.Outputs.{AreListsApart}
 use Rattle.cli.specs.declared.lists.Given.{Given}
 use Rattle.cli.specs.steps.Lists.{AreGivenAs, names_of}
 use Rattle.cli.proofs.ListLemmas.{names_given}
-use Rattle.cli.specs.Refusal.{refusal_status}
+use Rattle.cli.specs.CommandFault.{refusal_status}
 use Rattle.cli.specs.Status.{IsOver, code_of}
-use Rattle.cli.specs.declared.fault.Refusal.{Refusal}
-use Rattle.cli.specs.declared.fault.Refusal.TheVariants as refusals
+use Rattle.cli.specs.declared.fault.CommandFault.{CommandFault}
+use Rattle.cli.specs.declared.fault.CommandFault.TheVariants as refusals
 
 -- ---- words with the names of lists in their place
 
@@ -53,7 +53,7 @@ asked_for words holds now asked P read apart same has = record {
 -- ---- refusals
 
 -- a command that was refused is not over
-pub refused_is_not_over : (refusal : Refusal) → ¬ IsOver (refusal_status refusal)
+pub refused_is_not_over : (refusal : CommandFault) → ¬ IsOver (refusal_status refusal)
 refused_is_not_over refusals.Memory = λ over. over
 refused_is_not_over (refusals.Class place fault) = λ over. over
 refused_is_not_over (refusals.Link fault) = λ over. over

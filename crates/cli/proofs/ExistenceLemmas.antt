@@ -25,8 +25,8 @@ use Rattle.building.specs.Builds.{patterns_in}
 use Rattle.building.specs.Refusals.{OptionsFail}
 use Rattle.building.specs.Laws.{AreTexts, HasImage}
 use Rattle.building.proofs.BuiltOrFaultLemmas.{built_or_fault_lem}
-use Rattle.cli.specs.declared.fault.Refusal.{Refusal}
-use Rattle.cli.specs.declared.fault.Refusal.TheVariants.{Class, Link}
+use Rattle.cli.specs.declared.fault.CommandFault.{CommandFault}
+use Rattle.cli.specs.declared.fault.CommandFault.TheVariants.{Class, Link}
 use Rattle.cli.specs.Builds.{BuildFails, IsBudget}
 use Rattle.cli.specs.Builds as builds
 use Rattle.cli.specs.Existence.{BuildOrFault, IsBuildable, ProgramOrRefusal}
@@ -117,7 +117,7 @@ module _ (texts : List (List ℕ)) (fits : All IsBytes texts) (files : List Clas
         },
       )
 
-  linked_or_refused : ((P : Tables) × IsProgramOf texts P) ⊎ ((refusal : Refusal) × NotLinked texts refusal)
+  linked_or_refused : ((P : Tables) × IsProgramOf texts P) ⊎ ((refusal : CommandFault) × NotLinked texts refusal)
   linked_or_refused = elim (links_or_fault files fit) [
     | inl (family, of, links) ↦ inl (program_of_files family of links)
     | inr (fault, fails) ↦ inr (Link fault, runs.link are fails)
@@ -143,7 +143,7 @@ module _ (texts : List (List ℕ)) (run build : Option (List ℕ)) (budget : ℕ
   Result = IsBuildable texts run build budget
       ⊎ ((fault : BuildFault) × BuildFails texts run build budget fault)
 
-  refused : {refusal : Refusal} → NotLinked texts refusal → Result
+  refused : {refusal : CommandFault} → NotLinked texts refusal → Result
   refused (runs.class {place = place} {fault = fault} bad) =
       inr (faults.Class place fault, builds.class range bad)
   refused (runs.link {fault = fault} are fails) = inr (faults.Link fault, builds.link range are fails)

@@ -16,7 +16,7 @@ use Rattle.command_line.specs.declared.request.Replay.{Replay}
 use Rattle.command_line.specs.declared.request.Request.TheVariants as requests
 use Rattle.cli.specs.declared.by_threads.ImageSeen.{ImageSeen}
 use Rattle.cli.specs.declared.by_threads.Journaled.{Journaled}
-use Rattle.cli.specs.declared.fault.Refusal.{Refusal}
+use Rattle.cli.specs.declared.fault.CommandFault.{CommandFault}
 use Rattle.cli.specs.declared.running.CutShort.TheVariants.{Device, Memory}
 use Rattle.cli.specs.declared.status.Status.{Status}
 use Rattle.cli.specs.declared.status.Status.TheVariants.{Done, Ended, Limit, Refused, Words}
@@ -61,7 +61,7 @@ ended_with_journal old new journal P first before after ran status is told writt
 
 -- a replay of what files hold, where what it is made of is theirs
 pub replay_of : (holds : Contents) (words : Replay) (P : Tables) (first : World) (text : List ℕ)
-    (result : Result (ImageSeen × Status) Refusal)
+    (result : Result (ImageSeen × Status) CommandFault)
     → IsBegunFromFile holds words.image.now words.entries.now P first → AreBytesOf (holds words.journal.now) text
     → IfOk result (λ r. (runs : List (ℕ × ℕ)) × IsJournalOf text runs × IsReplayed first runs r.0 r.1)
     → IfOk result (λ r. r.0.program ≡ P) → IfOk result (λ r. IsReplayOf holds words r.0 r.1)

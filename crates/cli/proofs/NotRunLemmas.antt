@@ -10,7 +10,7 @@ use Rattle.object_graph.specs.Images.{ImageTables}
 use Rattle.init_engine.specs.Starts.{EntriesFail, IsStart}
 use Rattle.image_reader.specs.Starts.{IsImageStart}
 use Rattle.command_line.specs.Requests.{texts}
-use Rattle.cli.specs.declared.fault.Refusal.{Refusal}
+use Rattle.cli.specs.declared.fault.CommandFault.{CommandFault}
 use Rattle.cli.specs.Entries.{entry_names}
 use Rattle.cli.specs.Files.{AreBytesOf, AreTextsOf, Contents}
 use Rattle.cli.specs.ImageRuns.{IsNoRun, IsSomeTextOf}
@@ -51,7 +51,7 @@ known_texts holds (n ∷ ns) (f ∷ fs) (o ∷ os) known all =
 -- ---- runs
 
 module _ (files names : List (List ℕ)) (bytes : All IsBytes files) (P : Tables) (w : World) where
-  no_run : {refusal : Refusal} → IsProgramOf files P → IsStart P names w → IsRefused files names refusal → ⊥
+  no_run : {refusal : CommandFault} → IsProgramOf files P → IsStart P names w → IsRefused files names refusal → ⊥
   no_run of start (runs.count wrong) = wrong start.entries.counted
   no_run {refusal} of start (runs.unlinked counted wrong) =
       linked_are_not_refused_lem files P refusal bytes of wrong
@@ -68,7 +68,7 @@ refused_files holds words files refusal before after bytes known wrong is =
     (subst (λ (held : List (List ℕ)). IsProgramOf held is.program) same is.begun.program) is.begun.start wrong
 
 module _ (bytes : List ℕ) (names : List (List ℕ)) (fits : IsBytes bytes) (w : World) where
-  no_image_run : (I : ImageTables) {refusal : Refusal} → IsProgram I.program → IsSomeTextOf bytes I
+  no_image_run : (I : ImageTables) {refusal : CommandFault} → IsProgram I.program → IsSomeTextOf bytes I
       → IsImageStart I names w → IsNoRun bytes names refusal → ⊥
   no_image_run I program of start (image_runs.count wrong) = wrong start.entries.counted
   no_image_run I program of start (image_runs.image {fault = x} counted wrong) =

@@ -13,7 +13,7 @@ use Rattle.building.specs.declared.build.BuildFault.{BuildFault}
 use Rattle.building.specs.Laws.{SaysTheSame}
 use Rattle.building.specs.Refusals.{OptionsFail}
 use Rattle.building.proofs.OneFaultLemmas.{one_fault_lem}
-use Rattle.cli.specs.declared.fault.Refusal.TheVariants.{Class, Link}
+use Rattle.cli.specs.declared.fault.CommandFault.TheVariants.{Class, Link}
 use Rattle.cli.specs.Builds.{BuildFails}
 use Rattle.cli.specs.Laws.{AreTheSame, OneBuildRefusal}
 use Rattle.cli.specs.Runs.{AreClassFiles, IsFirstBad, IsProgramOf}

@@ -16,8 +16,8 @@ use Rattle.loading.proofs.ZipLemmas.{partner_of}
 use Rattle.semantics.proofs.TestsLemmas.{from_some}
 use Rattle.program.specs.Tables.{Tables}
 use Rattle.building.proofs.OneFaultLemmas.{at_all}
-use Rattle.cli.specs.declared.fault.Refusal.{Refusal}
-use Rattle.cli.specs.declared.fault.Refusal.TheVariants.{Link}
+use Rattle.cli.specs.declared.fault.CommandFault.{CommandFault}
+use Rattle.cli.specs.declared.fault.CommandFault.TheVariants.{Link}
 use Rattle.cli.specs.Runs.{AreClassFiles, IsFirstBad, IsProgramOf, NotLinked}
 use Rattle.cli.specs.Runs as runs
 use Rattle.cli.specs.Laws.{LinkedAreNotRefused, OneRefusal}
@@ -95,11 +95,11 @@ module _ (texts : List (List ℕ)) (bytes : All IsBytes texts) where
 
   -- ---- refusals
 
-  none : (P : Tables) (r : Refusal) → IsProgramOf texts P → NotLinked texts r → ⊥
+  none : (P : Tables) (r : CommandFault) → IsProgramOf texts P → NotLinked texts r → ⊥
   none P r of (runs.class {place} {fault} bad) = none_bad place fault of.files of.are bad
   none P r of (runs.link {files} {fault} are fails) = none_unlinked P files fault of are fails
 
-  one : (r q : Refusal) → NotLinked texts r → NotLinked texts q → r ≡ q
+  one : (r q : CommandFault) → NotLinked texts r → NotLinked texts q → r ≡ q
   one r q (runs.class {place = i} {fault = x} bad) (runs.class {place = j} {fault = y} other) =
       let place : i ≡ j = one_bad_place i j x y bad other in
       let fault : x ≡ y = one_bad_fault i j x y bad other in

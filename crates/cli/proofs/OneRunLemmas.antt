@@ -13,8 +13,8 @@ use Rattle.image_parser.proofs.ImageLaw.{one_of}
 use Rattle.image_writer.specs.ImageTexts.{told_of}
 use Rattle.init_engine.specs.declared.fault.EntryFault.{EntryFault}
 use Rattle.init_engine.specs.Starts.{EntriesFail}
-use Rattle.cli.specs.declared.fault.Refusal.{Refusal}
-use Rattle.cli.specs.declared.fault.Refusal.TheVariants.{Entry, Image}
+use Rattle.cli.specs.declared.fault.CommandFault.{CommandFault}
+use Rattle.cli.specs.declared.fault.CommandFault.TheVariants.{Entry, Image}
 use Rattle.cli.specs.ImageRuns.{IsNoRun, IsSomeTextOf}
 use Rattle.cli.specs.ImageRuns as image_runs
 use Rattle.cli.specs.Laws.{OneImageRunRefusal, OneRunRefusal}
@@ -37,7 +37,7 @@ module _ (texts names : List (List ℕ)) (bytes : All IsBytes texts) where
       one_fault P of.family.fits names fails
       (subst (λ (R : Tables). EntriesFail R names y) (sym (one_program_of P Q of other)) also)
 
-  one : (r q : Refusal) → IsRefused texts names r → IsRefused texts names q → r ≡ q
+  one : (r q : CommandFault) → IsRefused texts names r → IsRefused texts names q → r ≡ q
   one r q (runs.count wrong) (runs.count other) = refl
   one r q (runs.count wrong) (runs.unlinked counted other) = absurd (wrong counted)
   one r q (runs.count wrong) (runs.entry counted of fails) = absurd (wrong counted)
@@ -79,7 +79,7 @@ module _ (bytes : List ℕ) (names : List (List ℕ)) (fits : IsBytes bytes) whe
       one_fault I.program (family_fits bytes I of) names fails
       (still_fail J.program I.program linked program (sym (one_family I J of also)) too)
 
-  one_of_image : (r q : Refusal) → IsNoRun bytes names r → IsNoRun bytes names q → r ≡ q
+  one_of_image : (r q : CommandFault) → IsNoRun bytes names r → IsNoRun bytes names q → r ≡ q
   one_of_image r q (image_runs.count wrong) (image_runs.count other) = refl
   one_of_image r q (image_runs.count wrong) (image_runs.image counted other) = absurd (wrong counted)
   one_of_image r q (image_runs.count wrong) (image_runs.entry I counted program of fails) = absurd (wrong counted)

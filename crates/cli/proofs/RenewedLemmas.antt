@@ -11,8 +11,8 @@ use Rattle.image_parser.specs.declared.image_fault.ImageFault.{ImageFault}
 use Rattle.image_parser.specs.declared.image_fault.ImageFault.TheVariants as image_faults
 use Rattle.image_writer.specs.ImageTexts.{told_of, text_of}
 use Rattle.cli.specs.Renewals.{IsNoImage, IsRenewed, no_image}
-use Rattle.cli.specs.declared.fault.Refusal.{Refusal}
-use Rattle.cli.specs.declared.fault.Refusal.TheVariants.{Image, Memory}
+use Rattle.cli.specs.declared.fault.CommandFault.{CommandFault}
+use Rattle.cli.specs.declared.fault.CommandFault.TheVariants.{Image, Memory}
 
 pub some_short : (bytes : List ℕ) (family : Family) (regions : List (Option ImageRegion))
     → SomeText bytes family regions → AreShort family
@@ -35,10 +35,10 @@ pub same_text : (bytes renewed : List ℕ) (I : ImageTables) (family : Family) (
 same_text bytes renewed I family regions is (files, told) e =
     e ∙ (λ i. image_text Two (files i) (told i)) ∙ sym is.spelled
 
-pub refused_renewal : (bytes : List ℕ) (fault : ImageFault) (r : Refusal)
+pub refused_renewal : (bytes : List ℕ) (fault : ImageFault) (r : CommandFault)
     → (fault ≡ image_faults.Memory) ⊎ ImageFails bytes fault → (fault ≡ image_faults.Memory → r ≡ Memory)
     → (fault ≢ image_faults.Memory → r ≡ Image fault) → (r ≡ Memory) ⊎ IsNoImage bytes r
 refused_renewal bytes fault r (inl e) memory other = inl (memory e)
 refused_renewal bytes image_faults.Memory r (inr fails) memory other = inl (memory refl)
 refused_renewal bytes fault r (inr fails) memory other =
-    inr (subst (λ (x : Refusal). IsNoImage bytes x) (sym (other (λ e. cc))) (no_image fails))
+    inr (subst (λ (x : CommandFault). IsNoImage bytes x) (sym (other (λ e. cc))) (no_image fails))

@@ -3,7 +3,7 @@ use Rattle.std.specs.Prelude.{◌≡◌, ℕ, List}
 use Rattle.std.specs.List.Sorted.{IsPermutation}
 use Rattle.loading.specs.declared.fault.LinkFault.{LinkFault}
 use Rattle.program.specs.Tables.{Tables}
-use Rattle.cli.specs.declared.fault.Refusal.TheVariants.{Link}
+use Rattle.cli.specs.declared.fault.CommandFault.TheVariants.{Link}
 use Rattle.cli.specs.Runs.{IsProgramOf, NotLinked}
 
 -- texts that make a program make it in any order

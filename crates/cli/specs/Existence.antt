@@ -9,14 +9,14 @@ use Rattle.object_graph.specs.Images.{ImageTables}
 use Rattle.building.specs.declared.build.BuildFault.{BuildFault}
 use Rattle.building.specs.Builds.{patterns_in, IsBuilt}
 use Rattle.building.specs.Laws.{AreTexts}
-use Rattle.cli.specs.declared.fault.Refusal.{Refusal}
+use Rattle.cli.specs.declared.fault.CommandFault.{CommandFault}
 use Rattle.cli.specs.Builds.{BuildFails, IsBudget}
 use Rattle.cli.specs.Runs.{IsProgramOf, NotLinked}
 
 -- Bytes make a program, or are refused.
 abbrev pub ProgramOrRefusal : Type 0
 ProgramOrRefusal = (texts : List (List ℕ)) → All IsBytes texts
-    → ((P : Tables) × IsProgramOf texts P) ⊎ ((refusal : Refusal) × NotLinked texts refusal)
+    → ((P : Tables) × IsProgramOf texts P) ⊎ ((refusal : CommandFault) × NotLinked texts refusal)
 
 -- an image of the class files that these texts are, by these options, with the last verdicts
 pub record IsBuildable (texts : List (List ℕ)) (run_time build_time : Option (List ℕ)) (budget : ℕ) : Type 0 where

@@ -11,8 +11,8 @@ use Rattle.image_reader.specs.Starts.{IsImageStart}
 use Rattle.init_engine.specs.Starts.{EntriesFail, IsEntryCount}
 use Rattle.init_engine.specs.declared.fault.EntryFault.{EntryFault}
 use Rattle.init_engine.specs.declared.fault.EntryFault.TheVariants.{Count}
-use Rattle.cli.specs.declared.fault.Refusal.{Refusal}
-use Rattle.cli.specs.declared.fault.Refusal.TheVariants.{Image, Entry}
+use Rattle.cli.specs.declared.fault.CommandFault.{CommandFault}
+use Rattle.cli.specs.declared.fault.CommandFault.TheVariants.{Image, Entry}
 use Rattle.cli.specs.declared.lazy.Shown.{Shown}
 use Rattle.cli.specs.Runs.{IsShownFrom}
 
@@ -32,7 +32,7 @@ pub record IsShownFromImage (I : ImageTables) (names : List (List ℕ)) (limit :
 
 -- Why there is no run, but for want of memory: there are too few or too many entries; the bytes are no image; or the
 -- entries can't be run in it.
-pub data IsNoRun (bytes : List ℕ) (names : List (List ℕ)) : Refusal → Type 0 where
+pub data IsNoRun (bytes : List ℕ) (names : List (List ℕ)) : CommandFault → Type 0 where
   count : (¬ IsEntryCount (length names)) → IsNoRun bytes names (Entry Count)
   image : {fault : ImageFault} → IsEntryCount (length names) → ImageFails bytes fault
       → IsNoRun bytes names (Image fault)

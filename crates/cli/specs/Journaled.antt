@@ -12,12 +12,12 @@ use Rattle.journal.specs.Journals.{IsJournalOf}
 use Rattle.thread_runner.specs.Replays.{IsReplay}
 use Rattle.cli.specs.declared.by_threads.ImageSeen.{ImageSeen}
 use Rattle.cli.specs.declared.by_threads.Journaled.{Journaled}
-use Rattle.cli.specs.declared.fault.Refusal.{Refusal}
+use Rattle.cli.specs.declared.fault.CommandFault.{CommandFault}
 use Rattle.cli.specs.declared.status.Status.{Status}
 use Rattle.command_line.specs.declared.request.Replay.{Replay}
 use Rattle.cli.specs.Begins.{IsBegunFromFile}
 use Rattle.cli.specs.Files.{AreBytesOf, Contents}
-use Rattle.cli.specs.Refusal.{refusal_status}
+use Rattle.cli.specs.CommandFault.{refusal_status}
 use Rattle.cli.specs.Running.{IsCutShort, cut_of}
 use Rattle.cli.specs.Status.{replay_status, run_status}
 
@@ -33,7 +33,7 @@ pub record IsJournaled (P : Tables) (first : World) (before after : Option (List
 
 -- what a run comes to: it is told, or was cut short, where so much of what some run printed has gone out as its
 -- refusal says
-abbrev pub IsOutcome : Tables → World → Option (List ℕ) → Option (List ℕ) → Result Journaled Refusal → Type 0
+abbrev pub IsOutcome : Tables → World → Option (List ℕ) → Option (List ℕ) → Result Journaled CommandFault → Type 0
 IsOutcome P first before after (Ok ran) = IsJournaled P first before after ran
 IsOutcome P first before after (Err refusal) = IsCutShort P first before after (cut_of (refusal_status refusal))
 

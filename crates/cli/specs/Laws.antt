@@ -11,7 +11,7 @@ use Rattle.command_line.specs.Requests.{texts}
 use Rattle.command_line.specs.declared.request.Lazy.{Lazy}
 use Rattle.command_line.specs.declared.request.Request.TheVariants as requests
 use Rattle.command_line.specs.declared.request.Run.{Run}
-use Rattle.cli.specs.declared.fault.Refusal.{Refusal}
+use Rattle.cli.specs.declared.fault.CommandFault.{CommandFault}
 use Rattle.cli.specs.Builds.{BuildFails}
 use Rattle.cli.specs.ImageRuns.{IsNoRun}
 use Rattle.cli.specs.Entries.{entry_names}
@@ -22,25 +22,25 @@ use Rattle.cli.specs.Runs.{IsProgramOf, IsRefused, NotLinked}
 -- Texts that make a program are not refused.
 abbrev pub LinkedAreNotRefused : Type 0
 LinkedAreNotRefused =
-    (texts : List (List ℕ)) (P : Tables) (refusal : Refusal) → All IsBytes texts → IsProgramOf texts P
+    (texts : List (List ℕ)) (P : Tables) (refusal : CommandFault) → All IsBytes texts → IsProgramOf texts P
     → ¬ NotLinked texts refusal
 
 -- Texts are refused for one fault.
 abbrev pub OneRefusal : Type 0
 OneRefusal =
-    (texts : List (List ℕ)) (first second : Refusal) → All IsBytes texts → NotLinked texts first
+    (texts : List (List ℕ)) (first second : CommandFault) → All IsBytes texts → NotLinked texts first
     → NotLinked texts second → first ≡ second
 
 -- A run of class files from some entries is refused for one fault.
 abbrev pub OneRunRefusal : Type 0
 OneRunRefusal =
-    (texts names : List (List ℕ)) (first second : Refusal) → All IsBytes texts → IsRefused texts names first
+    (texts names : List (List ℕ)) (first second : CommandFault) → All IsBytes texts → IsRefused texts names first
     → IsRefused texts names second → first ≡ second
 
 -- A run of an image from some entries is refused for one fault.
 abbrev pub OneImageRunRefusal : Type 0
 OneImageRunRefusal =
-    (bytes : List ℕ) (names : List (List ℕ)) (first second : Refusal) → IsBytes bytes → IsNoRun bytes names first
+    (bytes : List ℕ) (names : List (List ℕ)) (first second : CommandFault) → IsBytes bytes → IsNoRun bytes names first
     → IsNoRun bytes names second → first ≡ second
 
 -- Two faults of a build are the same, with the place of a text that is no class file. Of a pattern its bytes are looked
@@ -60,13 +60,13 @@ OneBuildRefusal =
 -- refused: nothing that goes out then is of a run.
 abbrev pub RefusedFilesAreNotRun : Type 0
 RefusedFilesAreNotRun =
-    (holds : Contents) (words : Lazy) (files : List (List ℕ)) (refusal : Refusal) (before after : Option (List ℕ))
+    (holds : Contents) (words : Lazy) (files : List (List ℕ)) (refusal : CommandFault) (before after : Option (List ℕ))
     → All IsBytes files → map holds (texts words.files.items) ≡ map Some files
     → IsRefused files (entry_names words.entries.now) refusal → ¬ IsOfRun holds (requests.Lazy words) before after
 
 -- Neither is an image, or what is none.
 abbrev pub RefusedImagesAreNotRun : Type 0
 RefusedImagesAreNotRun =
-    (holds : Contents) (words : Run) (bytes : List ℕ) (refusal : Refusal) (before after : Option (List ℕ))
+    (holds : Contents) (words : Run) (bytes : List ℕ) (refusal : CommandFault) (before after : Option (List ℕ))
     → IsBytes bytes → holds words.image.now ≡ Some bytes → IsNoRun bytes (entry_names words.entries.now) refusal
     → ¬ IsOfRun holds (requests.Run words) before after

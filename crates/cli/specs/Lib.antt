@@ -1,5 +1,5 @@
 pub mod Status
-pub mod Refusal
+pub mod CommandFault
 pub mod Runs
 pub mod Running
 pub mod Builds

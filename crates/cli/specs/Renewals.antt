@@ -5,8 +5,8 @@ use Rattle.image_format.specs.Regions.{ImageRegion}
 use Rattle.image_format.specs.Images.{ImageText, SomeText}
 use Rattle.image_parser.specs.ImageFaults.{ImageFails}
 use Rattle.image_parser.specs.declared.image_fault.ImageFault.{ImageFault}
-use Rattle.cli.specs.declared.fault.Refusal.{Refusal}
-use Rattle.cli.specs.declared.fault.Refusal.TheVariants.{Image}
+use Rattle.cli.specs.declared.fault.CommandFault.{CommandFault}
+use Rattle.cli.specs.declared.fault.CommandFault.TheVariants.{Image}
 
 -- The bytes are a text of an image, of either version, and the others are the text of that image.
 pub record IsRenewed (bytes renewed : List ℕ) : Type 0 where
@@ -16,5 +16,5 @@ pub record IsRenewed (bytes renewed : List ℕ) : Type 0 where
   pub written : ImageText renewed family regions
 
 -- why there is nothing to write, but for want of memory: the bytes are no image
-pub data IsNoImage (bytes : List ℕ) : Refusal → Type 0 where
+pub data IsNoImage (bytes : List ℕ) : CommandFault → Type 0 where
   no_image : {fault : ImageFault} → ImageFails bytes fault → IsNoImage bytes (Image fault)

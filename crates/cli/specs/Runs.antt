@@ -19,8 +19,8 @@ use Rattle.init_engine.specs.Schedules.{schedule_of}
 use Rattle.init_engine.specs.Starts.{IsEntryCount, IsStart, EntriesFail}
 use Rattle.init_engine.specs.declared.fault.EntryFault.{EntryFault}
 use Rattle.init_engine.specs.declared.fault.EntryFault.TheVariants.{Count}
-use Rattle.cli.specs.declared.fault.Refusal.{Refusal}
-use Rattle.cli.specs.declared.fault.Refusal.TheVariants.{Class, Link, Entry}
+use Rattle.cli.specs.declared.fault.CommandFault.{CommandFault}
+use Rattle.cli.specs.declared.fault.CommandFault.TheVariants.{Class, Link, Entry}
 use Rattle.cli.specs.declared.lazy.Shown.{Shown}
 
 -- what some files hold
@@ -63,16 +63,16 @@ pub record IsFirstBad (texts : List (List ℕ)) (place : ℕ) (fault : ClassFaul
   pub breaks : FirstFault text fault
 
 -- why texts make no program, but for want of memory: one is no class file, or the class files do not link
-pub data NotLinked (texts : List (List ℕ)) : Refusal → Type 0 where
+pub data NotLinked (texts : List (List ℕ)) : CommandFault → Type 0 where
   class : {place : ℕ} {fault : ClassFault} → IsFirstBad texts place fault → NotLinked texts (Class place fault)
   link : {files : List ClassFile} {fault : LinkFault} → AreClassFiles texts files → LinkFails files fault
       → NotLinked texts (Link fault)
 
 -- Why there is no run, but for want of memory: there are too few or too many entries; the texts make no program; or the
 -- entries can't be run in it.
-pub data IsRefused (bytes names : List (List ℕ)) : Refusal → Type 0 where
+pub data IsRefused (bytes names : List (List ℕ)) : CommandFault → Type 0 where
   count : (¬ IsEntryCount (length names)) → IsRefused bytes names (Entry Count)
-  unlinked : {refusal : Refusal} → IsEntryCount (length names) → NotLinked bytes refusal
+  unlinked : {refusal : CommandFault} → IsEntryCount (length names) → NotLinked bytes refusal
       → IsRefused bytes names refusal
   entry : {P : Tables} {fault : EntryFault} → IsEntryCount (length names) → IsProgramOf bytes P
       → EntriesFail P names fault → IsRefused bytes names (Entry fault)

@@ -4,7 +4,7 @@ ghost use Rattle.cli.specs.Audits.{IsAudit, IsAuditFrom, IsAuditOf};
 
 use crate::class_files::program_of_texts;
 use crate::files::contents;
-use crate::{Audit, Files, Refusal, entries_of};
+use crate::{Audit, CommandFault, Files, entries_of};
 use audit::{audit, audit_text};
 use classfile::ClassName;
 use init_engine::starting::entry_classes;
@@ -27,7 +27,7 @@ pub(crate) fn run<F: Files>(
     alloc: Global,
     words: &Audit<'_>,
     files: &mut F,
-) -> Result<Audited, Refusal>
+) -> Result<Audited, CommandFault>
     ensures audit { IfOk result (λ audited. IsAudit (F.holds files.old) words.now audited.text.items audited.is_clean) }
     ensures same { F.holds files.new ≡ F.holds files.old }
 {
@@ -44,12 +44,12 @@ fn audit_by_names(
     alloc: Global,
     program: &Program,
     entries: &[ClassName],
-) -> Result<Audited, Refusal>
+) -> Result<Audited, CommandFault>
     ensures { IfOk result (λ audited. IsAuditOf program.now entries.now audited.text.items audited.is_clean) }
 {
     match entry_classes(alloc, program, entries) {
         Ok(classes) => Ok(audit_by_classes(alloc, program, classes.as_slice())?),
-        Err(fault) => Err(Refusal::of_entry(fault)),
+        Err(fault) => Err(CommandFault::of_entry(fault)),
     }
 }
 

@@ -20,7 +20,7 @@ use crate::builds::build;
 use crate::files::put;
 use crate::image_build::GREATEST_LENGTH;
 use crate::reporting::report_bytes;
-use crate::{Build, Files, Refusal};
+use crate::{Build, CommandFault, Files};
 use building::{BuildFault, BuildOptions, Built};
 use image_writer::image_text;
 use std::alloc::{AllocError, Global};
@@ -112,7 +112,7 @@ pub(crate) fn write_texts<F: Files>(
     words: &Build<'_>,
     texts: &BuildTexts,
     files: &mut F,
-) -> Result<(), Refusal>
+) -> Result<(), CommandFault>
     requires { IsReportApart words.now }
     ensures { OnOk result (AreWritten (F.holds files.old) (F.holds files.new) words.now.image.now words.now.report
         texts.now.image.items texts.now.report.items) }
@@ -131,7 +131,7 @@ fn write_both<F: Files>(
     report: &str,
     texts: &BuildTexts,
     files: &mut F,
-) -> Result<(), Refusal>
+) -> Result<(), CommandFault>
     requires { report.now ≢ image.now }
     ensures { OnOk result (AreBothWritten (F.holds files.old) (F.holds files.new) image.now report.now
         texts.now.image.items texts.now.report.items) }

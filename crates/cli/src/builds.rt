@@ -9,7 +9,7 @@ ghost use Rattle.cli.specs.Builds.{BuildFails, IsBudget, IsBuildOfClassFiles};
 ghost use Rattle.cli.specs.Runs.{texts_of};
 ghost use Rattle.cli.specs.steps.Builds.{fault_of};
 
-use crate::Refusal;
+use crate::CommandFault;
 use crate::class_files::linked_program;
 use building::{BuildFault, BuildOptions, Built, build_program, build_program_here};
 use std::alloc::Global;
@@ -26,12 +26,12 @@ fn is_budget(budget: u64) -> bool
 }
 
 /// Why there is no program to build.
-fn fault_of(refusal: Refusal) -> BuildFault
+fn fault_of(refusal: CommandFault) -> BuildFault
     ensures { result ≡ fault_of refusal }
 {
     match refusal {
-        Refusal::Class(place, fault) => BuildFault::Class(place, fault),
-        Refusal::Link(fault) => BuildFault::Link(fault),
+        CommandFault::Class(place, fault) => BuildFault::Class(place, fault),
+        CommandFault::Link(fault) => BuildFault::Link(fault),
         _ => BuildFault::Memory,
     }
 }

@@ -12,7 +12,7 @@ ghost use Rattle.cli.specs.Status.{is_going, replay_status, run_status};
 
 use crate::files::get;
 use crate::image_run::{ImageStart, start_of};
-use crate::{Files, Refusal, Replay, Status, status_of};
+use crate::{CommandFault, Files, Replay, Status, status_of};
 use init_engine::{Ending, Rest, Seen, World};
 use journal::Journal;
 use program::Program;
@@ -47,7 +47,7 @@ pub(crate) fn run_by_threads<R: Threads + Wait + Sync, W: Write + Send + Drop>(
     world: World,
     limit: u64,
     out: W,
-) -> (Result<Journaled, Refusal>, W)
+) -> (Result<Journaled, CommandFault>, W)
     ensures { IsOutcome program.now (world_of world) (W.contents out) (W.contents result.1) result.0 }
 {
     let limit = limit.min(GREATEST_LIMIT);
@@ -58,7 +58,7 @@ pub(crate) fn run_by_threads<R: Threads + Wait + Sync, W: Write + Send + Drop>(
 }
 
 /// What threads answered, as a command tells it.
-fn outcome_of(answer: Result<Ended, thread_runner::RunFault>) -> Result<Journaled, Refusal>
+fn outcome_of(answer: Result<Ended, thread_runner::RunFault>) -> Result<Journaled, CommandFault>
     ensures { (P : Tables) (first : FirstWorld) (limit : ℕ) (before after : Option (List ℕ)) (failed failures : ℕ)
         → IsAnswer P first limit answer before after failed failures → IsOutcome P first before after result }
 {
@@ -66,9 +66,9 @@ fn outcome_of(answer: Result<Ended, thread_runner::RunFault>) -> Result<Journale
         Ok(ended) => Ok(ran(ended, Rest::Ended)),
         Err(thread_runner::RunFault::Limit(ended)) => Ok(ran(ended, Rest::Going)),
         Err(thread_runner::RunFault::Stuck(ended)) => Ok(ran(ended, Rest::Stuck)),
-        Err(thread_runner::RunFault::Memory) => Err(Refusal::Memory),
-        Err(thread_runner::RunFault::Spawn) => Err(Refusal::Spawn),
-        Err(thread_runner::RunFault::Device(_)) => Err(Refusal::Device),
+        Err(thread_runner::RunFault::Memory) => Err(CommandFault::Memory),
+        Err(thread_runner::RunFault::Spawn) => Err(CommandFault::Spawn),
+        Err(thread_runner::RunFault::Device(_)) => Err(CommandFault::Device),
     }
 }
 
@@ -87,7 +87,10 @@ fn ran(ended: Ended, rest: Rest) -> Journaled
 }
 
 /// Flushes a sink after a run whose text went out.
-fn flushed<W: Write>(outcome: Result<Journaled, Refusal>, out: &mut W) -> Result<Journaled, Refusal>
+fn flushed<W: Write>(
+    outcome: Result<Journaled, CommandFault>,
+    out: &mut W,
+) -> Result<Journaled, CommandFault>
     ensures { (P : Tables) (first : FirstWorld) (before : Option (List ℕ))
         → IsOutcome P first before (W.contents out.old) outcome
         → IsOutcome P first before (W.contents out.new) result }
@@ -95,7 +98,7 @@ fn flushed<W: Write>(outcome: Result<Journaled, Refusal>, out: &mut W) -> Result
     match outcome {
         Ok(ran) => match out.flush() {
             Ok(()) => Ok(ran),
-            Err(_) => Err(Refusal::Device),
+            Err(_) => Err(CommandFault::Device),
         },
         Err(refusal) => Err(refusal),
     }
@@ -109,7 +112,7 @@ pub(crate) fn replayed<F: Files>(
     alloc: Global,
     words: &Replay<'_>,
     files: &mut F,
-) -> Result<(ImageSeen, Status), Refusal>
+) -> Result<(ImageSeen, Status), CommandFault>
     ensures replayed { IfOk result (λ r. IsReplayOf (F.holds files.old) words.now r.0 r.1) }
     ensures same { F.holds files.new ≡ F.holds files.old }
 {
@@ -124,14 +127,14 @@ fn replay_text(
     alloc: Global,
     start: ImageStart,
     text: &[u8],
-) -> Result<(ImageSeen, Status), Refusal>
+) -> Result<(ImageSeen, Status), CommandFault>
     ensures replayed { IfOk result (λ r. (runs : List (ℕ × ℕ)) × IsJournalOf text.now runs
         × IsReplayed (world_of start.world) runs r.0 r.1) }
     ensures program { IfOk result (λ r. r.0.program ≡ start.program) }
 {
     match Journal::parse(alloc, text) {
         Ok(journal) => replay_journal(alloc, start, journal),
-        Err(fault) => Err(Refusal::of_journal(fault)),
+        Err(fault) => Err(CommandFault::of_journal(fault)),
     }
 }
 
@@ -140,7 +143,7 @@ fn replay_journal(
     alloc: Global,
     start: ImageStart,
     journal: Journal,
-) -> Result<(ImageSeen, Status), Refusal>
+) -> Result<(ImageSeen, Status), CommandFault>
     ensures replayed { IfOk result (λ r. IsReplayed (world_of start.world) journal r.0 r.1) }
     ensures program { IfOk result (λ r. r.0.program ≡ start.program) }
 {
@@ -162,7 +165,7 @@ fn replay_journal(
                 status,
             ))
         }
-        Err(fault) => Err(Refusal::of_replay(fault)),
+        Err(fault) => Err(CommandFault::of_replay(fault)),
     }
 }
 

@@ -8,7 +8,7 @@ ghost use Rattle.options.specs.Classes.{AreClasses, IsForced};
 ghost use Rattle.report.specs.Waves.{GiveWaves};
 
 use crate::requested::asked_build;
-use crate::{Building, Explain, Files, Refusal, Watch, entries_of};
+use crate::{Building, CommandFault, Explain, Files, Watch, entries_of};
 use building::Built;
 use explain::{all_text, class_text};
 use init_engine::EntryFault;
@@ -29,7 +29,7 @@ pub(crate) fn run<R: Threads + Wait + Sync, F: Files, H: Watch + Sync>(
     words: &Explain<'_>,
     files: &mut F,
     watch: &H,
-) -> Result<Vec<u8>, Refusal>
+) -> Result<Vec<u8>, CommandFault>
     ensures explained { IfOk result (λ text. IsExplained (F.holds files.old) words.now text.items) }
     ensures same { F.holds files.new ≡ F.holds files.old }
 {
@@ -64,13 +64,13 @@ fn explanation(
     built: &Built,
     building: &Building<'_>,
     class: &str,
-) -> Result<Vec<u8>, Refusal>
+) -> Result<Vec<u8>, CommandFault>
     requires { GiveWaves built.now.image built.now.verdicts }
     ensures { IfOk result
         (λ text. IsExplanationBy built.now (text_of building.now.run_time) building.now.budget class.now text.items) }
 {
     let Ok(forced) = forced_by(alloc, built.image.program(), building.run_time) else {
-        return Err(Refusal::Memory);
+        return Err(CommandFault::Memory);
     };
     let text = explanation_of(alloc, built, &forced, building.budget, class)?;
     Ok(text)
@@ -83,7 +83,7 @@ fn explanation_of(
     forced: &Forced,
     budget: u64,
     class: &str,
-) -> Result<Vec<u8>, Refusal>
+) -> Result<Vec<u8>, CommandFault>
     requires { GiveWaves built.now.image built.now.verdicts }
     ensures { IfOk result (λ text. IsExplanationOf built.now forced.now budget class.now text.items) }
 {
@@ -119,7 +119,7 @@ fn explanation_of_class(
     forced: &Forced,
     budget: u64,
     class: &str,
-) -> Result<Vec<u8>, Refusal>
+) -> Result<Vec<u8>, CommandFault>
     requires { GiveWaves built.now.image built.now.verdicts }
     ensures { IfOk result (λ text. IsExplanationOfClass built.now forced.now budget class.now text.items) }
 {
@@ -130,15 +130,15 @@ fn explanation_of_class(
 }
 
 /// The number of the class of a name with dots.
-fn number_of(alloc: Global, program: &Program, class: &str) -> Result<u32, Refusal>
+fn number_of(alloc: Global, program: &Program, class: &str) -> Result<u32, CommandFault>
     ensures { IfOk result (IsClassOf program.now class.now) }
 {
     let names = entries_of(alloc, class)?;
     let [name] = names.as_slice() else {
-        return Err(Refusal::Entry(EntryFault::Unknown { entry: 0 }));
+        return Err(CommandFault::Entry(EntryFault::Unknown { entry: 0 }));
     };
     match program.number_of(alloc, name)? {
         Some(number) => Ok(number),
-        None => Err(Refusal::Entry(EntryFault::Unknown { entry: 0 })),
+        None => Err(CommandFault::Entry(EntryFault::Unknown { entry: 0 })),
     }
 }

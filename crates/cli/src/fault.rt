@@ -1,7 +1,7 @@
 //! Why a command was refused.
 ghost use Rattle.std.specs.Prelude.{◌≡◌, ◌≢◌};
-ghost use Rattle.cli.specs.Refusal.{IsOfFile, refusal_status};
-ghost use Rattle.cli.specs.declared.fault.Refusal.TheVariants.{Memory};
+ghost use Rattle.cli.specs.CommandFault.{IsOfFile, refusal_status};
+ghost use Rattle.cli.specs.declared.fault.CommandFault.TheVariants.{Memory};
 
 use crate::{FileCause, FileFault, Status};
 use classfile::ClassFault;
@@ -16,7 +16,7 @@ use wave_scheduler::outcome::WaveFault;
 
 /// Why a command was refused. Its text follows `preinit: ` on standard error.
 #[derive(Debug, Drop, Error)]
-pub enum Refusal {
+pub enum CommandFault {
     /// Memory was refused, by any of the calls.
     #[error("Memory")]
     Memory,
@@ -61,111 +61,111 @@ pub enum Refusal {
     Device,
 }
 
-impl Refusal {
+impl CommandFault {
     /// The status that the command then ends with: `Failed` for a file or standard output, and else
     /// `Refused`.
     pub fn status(&self) -> Status
         ensures { result ≡ refusal_status self.now }
     {
         match self {
-            Refusal::File(..) | Refusal::Device => Status::Failed,
+            CommandFault::File(..) | CommandFault::Device => Status::Failed,
             _ => Status::Refused,
         }
     }
 
     /// The refusal of the class file at this place. To be out of memory is no fault of the file.
-    pub(crate) fn of_class(place: usize, fault: ClassFault) -> Refusal
-        ensures memory { fault ≡ ClassFault.Memory → result ≡ Refusal.Memory }
-        ensures other { fault ≢ ClassFault.Memory → result ≡ Refusal.Class place fault }
+    pub(crate) fn of_class(place: usize, fault: ClassFault) -> CommandFault
+        ensures memory { fault ≡ ClassFault.Memory → result ≡ CommandFault.Memory }
+        ensures other { fault ≢ ClassFault.Memory → result ≡ CommandFault.Class place fault }
     {
         match fault {
-            ClassFault::Memory => Refusal::Memory,
-            fault => Refusal::Class(place, fault),
+            ClassFault::Memory => CommandFault::Memory,
+            fault => CommandFault::Class(place, fault),
         }
     }
 
     /// The refusal of the classes together. To be out of memory is no fault of theirs.
-    pub(crate) fn of_link(fault: LinkFault) -> Refusal
-        ensures memory { fault ≡ LinkFault.Memory → result ≡ Refusal.Memory }
-        ensures other { fault ≢ LinkFault.Memory → result ≡ Refusal.Link fault }
+    pub(crate) fn of_link(fault: LinkFault) -> CommandFault
+        ensures memory { fault ≡ LinkFault.Memory → result ≡ CommandFault.Memory }
+        ensures other { fault ≢ LinkFault.Memory → result ≡ CommandFault.Link fault }
     {
         match fault {
-            LinkFault::Memory => Refusal::Memory,
-            fault => Refusal::Link(fault),
+            LinkFault::Memory => CommandFault::Memory,
+            fault => CommandFault::Link(fault),
         }
     }
 
     /// The refusal of the bytes of an image. To be out of memory is no fault of theirs.
-    pub(crate) fn of_image(fault: ImageFault) -> Refusal
-        ensures memory { fault ≡ ImageFault.Memory → result ≡ Refusal.Memory }
-        ensures other { fault ≢ ImageFault.Memory → result ≡ Refusal.Image fault }
+    pub(crate) fn of_image(fault: ImageFault) -> CommandFault
+        ensures memory { fault ≡ ImageFault.Memory → result ≡ CommandFault.Memory }
+        ensures other { fault ≢ ImageFault.Memory → result ≡ CommandFault.Image fault }
     {
         match fault {
-            ImageFault::Memory => Refusal::Memory,
-            fault => Refusal::Image(fault),
+            ImageFault::Memory => CommandFault::Memory,
+            fault => CommandFault::Image(fault),
         }
     }
 
     /// The refusal of an entry. To be out of memory is no fault of its.
-    pub(crate) fn of_entry(fault: EntryFault) -> Refusal
-        ensures memory { fault ≡ EntryFault.Memory → result ≡ Refusal.Memory }
-        ensures other { fault ≢ EntryFault.Memory → result ≡ Refusal.Entry fault }
+    pub(crate) fn of_entry(fault: EntryFault) -> CommandFault
+        ensures memory { fault ≡ EntryFault.Memory → result ≡ CommandFault.Memory }
+        ensures other { fault ≢ EntryFault.Memory → result ≡ CommandFault.Entry fault }
     {
         match fault {
-            EntryFault::Memory => Refusal::Memory,
-            fault => Refusal::Entry(fault),
+            EntryFault::Memory => CommandFault::Memory,
+            fault => CommandFault::Entry(fault),
         }
     }
 
     /// The refusal of the file of this name. To be out of memory is no fault of the file.
-    pub(crate) fn of_file(alloc: Global, name: &str, fault: FileFault) -> Refusal
-        ensures memory { fault ≡ FileFault.Memory → result ≡ Refusal.Memory }
+    pub(crate) fn of_file(alloc: Global, name: &str, fault: FileFault) -> CommandFault
+        ensures memory { fault ≡ FileFault.Memory → result ≡ CommandFault.Memory }
         ensures device { fault ≢ FileFault.Memory → IsOfFile result name.now }
     {
         match fault {
-            FileFault::Memory => Refusal::Memory,
+            FileFault::Memory => CommandFault::Memory,
             FileFault::Device(cause) => match String::from_str(alloc, name) {
-                Ok(name) => Refusal::File(name, cause),
-                Err(_) => Refusal::Memory,
+                Ok(name) => CommandFault::File(name, cause),
+                Err(_) => CommandFault::Memory,
             },
         }
     }
 }
 
-impl Refusal {
+impl CommandFault {
     /// The refusal of the list of this name, which is not UTF-8.
-    pub(crate) fn of_list(alloc: Global, name: &str) -> Refusal {
+    pub(crate) fn of_list(alloc: Global, name: &str) -> CommandFault {
         match String::from_str(alloc, name) {
-            Ok(name) => Refusal::List(name),
-            Err(_) => Refusal::Memory,
+            Ok(name) => CommandFault::List(name),
+            Err(_) => CommandFault::Memory,
         }
     }
 
     /// The refusal of the text of a journal. To be out of memory is no fault of its.
-    pub(crate) fn of_journal(fault: JournalFault) -> Refusal
-        ensures { result ≢ Refusal.Device }
+    pub(crate) fn of_journal(fault: JournalFault) -> CommandFault
+        ensures { result ≢ CommandFault.Device }
     {
         match fault {
-            JournalFault::Memory => Refusal::Memory,
-            JournalFault::Text(line) => Refusal::Text(line),
+            JournalFault::Memory => CommandFault::Memory,
+            JournalFault::Text(line) => CommandFault::Text(line),
         }
     }
 
     /// The refusal of a replay. To be out of memory is no fault of its journal.
-    pub(crate) fn of_replay(fault: ReplayFault) -> Refusal
-        ensures { result ≢ Refusal.Device }
+    pub(crate) fn of_replay(fault: ReplayFault) -> CommandFault
+        ensures { result ≢ CommandFault.Device }
     {
         match fault {
-            ReplayFault::Memory => Refusal::Memory,
-            ReplayFault::Turn(line) => Refusal::Turn(line),
+            ReplayFault::Memory => CommandFault::Memory,
+            ReplayFault::Turn(line) => CommandFault::Turn(line),
         }
     }
 }
 
-impl From<AllocError> for Refusal {
+impl From<AllocError> for CommandFault {
     ghost from_gives = { λ _ e. e ≡ Memory };
 
-    fn from(_error: AllocError) -> Refusal {
-        Refusal::Memory
+    fn from(_error: AllocError) -> CommandFault {
+        CommandFault::Memory
     }
 }

@@ -5,7 +5,7 @@ ghost use Rattle.cli.specs.Files.{AreBytesOf, AreTextsOf, OthersStay};
 ghost use Rattle.cli.specs.ImageBuilds.{AreAtMost};
 ghost use Rattle.cli.specs.Runs.{texts_of};
 
-use crate::Refusal;
+use crate::CommandFault;
 use std::alloc::{AllocError, Global};
 use std::fmt::{self, Display, Formatter, Write};
 
@@ -90,7 +90,7 @@ pub(crate) fn contents<F: Files>(
     names: &[&str],
     files: &mut F,
     most: usize,
-) -> Result<Vec<Vec<u8>>, Refusal>
+) -> Result<Vec<Vec<u8>>, CommandFault>
     ensures most { IfOk result (λ contents. AreAtMost most (texts_of contents.items)) }
     ensures texts { IfOk result
         (λ contents. AreTextsOf (F.holds files.old) (texts names.now) (texts_of contents.items)) }
@@ -100,7 +100,7 @@ pub(crate) fn contents<F: Files>(
     for name in names {
         match content(name, files, most) {
             Ok(bytes) => add_bytes(&mut contents, bytes)?,
-            Err(fault) => return Err(Refusal::of_file(alloc, name, fault)),
+            Err(fault) => return Err(CommandFault::of_file(alloc, name, fault)),
         }
     }
     Ok(contents)
@@ -136,13 +136,17 @@ fn add_bytes(contents: &mut Vec<Vec<u8>>, bytes: Vec<u8>) -> Result<(), AllocErr
 }
 
 /// The bytes of the file of this name.
-pub(crate) fn get<F: Files>(alloc: Global, name: &str, files: &mut F) -> Result<Vec<u8>, Refusal>
+pub(crate) fn get<F: Files>(
+    alloc: Global,
+    name: &str,
+    files: &mut F,
+) -> Result<Vec<u8>, CommandFault>
     ensures bytes { IfOk result (λ bytes. AreBytesOf (F.holds files.old name.now) bytes.items) }
     ensures same { F.holds files.new ≡ F.holds files.old }
 {
     match files.get(name) {
         Ok(bytes) => Ok(bytes),
-        Err(fault) => Err(Refusal::of_file(alloc, name, fault)),
+        Err(fault) => Err(CommandFault::of_file(alloc, name, fault)),
     }
 }
 
@@ -152,12 +156,12 @@ pub(crate) fn put<F: Files>(
     name: &str,
     bytes: &[u8],
     files: &mut F,
-) -> Result<(), Refusal>
+) -> Result<(), CommandFault>
     ensures made { OnOk result (AreBytesOf (F.holds files.new name.now) bytes.now) }
     ensures others { OthersStay (F.holds files.old) (F.holds files.new) name.now }
 {
     match files.put(name, bytes) {
         Ok(()) => Ok(()),
-        Err(fault) => Err(Refusal::of_file(alloc, name, fault)),
+        Err(fault) => Err(CommandFault::of_file(alloc, name, fault)),
     }
 }

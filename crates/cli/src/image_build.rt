@@ -15,7 +15,7 @@ use crate::builds::build;
 use crate::files::contents;
 use crate::requested::{options_of, refusal_of};
 use crate::watching::Watched;
-use crate::{Build, Files, Refusal, Stage, Watch};
+use crate::{Build, CommandFault, Files, Stage, Watch};
 use building::{BuildFault, BuildOptions};
 use std::alloc::Global;
 use std::sync::Wait;
@@ -70,7 +70,7 @@ pub(crate) fn run<R: Threads + Wait + Sync, F: Files, H: Watch + Sync>(
     words: &Build<'_>,
     files: &mut F,
     watch: &H,
-) -> Result<(), Refusal>
+) -> Result<(), CommandFault>
     requires { IsReportApart words.now }
     ensures { OnOk result (HasBuilt (F.holds files.old) (F.holds files.new) words.now) }
 {

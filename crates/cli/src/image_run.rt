@@ -9,12 +9,12 @@ ghost use Rattle.cli.specs.Begins.{IsBegunFromFile};
 ghost use Rattle.cli.specs.ImageBuilds.{IsBuiltText, IsImageOf};
 ghost use Rattle.cli.specs.ImageRuns.{IsNoRun, IsShownFromImage, IsSomeTextOf};
 ghost use Rattle.cli.specs.steps.Starts.{IsBegunFrom, IsBegunFromBytes};
-ghost use Rattle.cli.specs.declared.fault.Refusal.TheVariants.{Entry, Memory};
+ghost use Rattle.cli.specs.declared.fault.CommandFault.TheVariants.{Entry, Memory};
 
 use crate::entries::is_entry_count;
 use crate::files::get;
 use crate::lazy::{Shown, shown_by_turns};
-use crate::{Files, Refusal, Run, entries_of};
+use crate::{CommandFault, Files, Run, entries_of};
 use classfile::ClassName;
 use image_reader::{into_world, read, read_by_two, world};
 use init_engine::{EntryFault, World};
@@ -41,7 +41,7 @@ pub fn run_image(
     bytes: &[u8],
     entries: &[ClassName],
     limit: u64,
-) -> Result<ImageRun, Refusal>
+) -> Result<ImageRun, CommandFault>
     // The bytes are a text of the image, of either version, the entries are its classes, and what is shown is what is
     // seen after the turns of its start.
     ensures image { IfOk result (λ run. IsSomeTextOf bytes.now run.image) }
@@ -60,7 +60,7 @@ pub fn run_image(
     ensures count { (result ≡ Err (Entry Count)) ↔ (¬ IsEntryCount (length entries.now)) }
 {
     if !is_entry_count(entries.len()) {
-        return Err(Refusal::Entry(EntryFault::Count));
+        return Err(CommandFault::Entry(EntryFault::Count));
     }
     match image_world(alloc, bytes, entries) {
         Ok(ImageWorld { image, world }) => {
@@ -79,7 +79,11 @@ struct ImageWorld {
 }
 
 /// The start from an image of these bytes.
-fn image_world(alloc: Global, bytes: &[u8], entries: &[ClassName]) -> Result<ImageWorld, Refusal>
+fn image_world(
+    alloc: Global,
+    bytes: &[u8],
+    entries: &[ClassName],
+) -> Result<ImageWorld, CommandFault>
     ensures image { IfOk result (λ start. IsSomeTextOf bytes.now start.image) }
     ensures program { IfOk result (λ start. IsProgram start.image.program) }
     ensures start { IfOk result (λ start. IsImageStart start.image entries.now (world_of start.world)) }
@@ -94,10 +98,10 @@ fn image_world(alloc: Global, bytes: &[u8], entries: &[ClassName]) -> Result<Ima
             let _classes = image.program().classes();
             match world(alloc, &image, entries) {
                 Ok(world) => Ok(ImageWorld { image, world }),
-                Err(fault) => Err(Refusal::of_entry(fault)),
+                Err(fault) => Err(CommandFault::of_entry(fault)),
             }
         }
-        Err(fault) => Err(Refusal::of_image(fault)),
+        Err(fault) => Err(CommandFault::of_image(fault)),
     }
 }
 
@@ -120,7 +124,7 @@ pub(crate) fn start<R: Threads, F: Files>(
     alloc: Global,
     words: &Run<'_>,
     files: &mut F,
-) -> Result<ImageStart, Refusal>
+) -> Result<ImageStart, CommandFault>
     ensures begun { IfOk result (λ start. IsBegunFromFile (F.holds files.old) words.now.image.now words.now.entries.now
         start.program (world_of start.world)) }
     ensures same { F.holds files.new ≡ F.holds files.old }
@@ -139,7 +143,7 @@ fn start_by_two<R: Threads>(
     list: &str,
     bytes: Vec<u8>,
     stacks: bool,
-) -> Result<ImageStart, Refusal>
+) -> Result<ImageStart, CommandFault>
     ensures { IfOk result (λ start. IsBegunFromBytes bytes.items list.now start.program (world_of start.world)) }
 {
     let entries = entries_of(alloc, list)?;
@@ -148,7 +152,7 @@ fn start_by_two<R: Threads>(
             drop(bytes);
             started(alloc, image, entries.as_slice(), stacks)
         }
-        Err(fault) => Err(Refusal::of_image(fault)),
+        Err(fault) => Err(CommandFault::of_image(fault)),
     }
 }
 
@@ -158,7 +162,7 @@ pub(crate) fn start_of(
     list: &str,
     bytes: Vec<u8>,
     stacks: bool,
-) -> Result<ImageStart, Refusal>
+) -> Result<ImageStart, CommandFault>
     ensures { IfOk result (λ start. IsBegunFromBytes bytes.items list.now start.program (world_of start.world)) }
 {
     let entries = entries_of(alloc, list)?;
@@ -167,7 +171,7 @@ pub(crate) fn start_of(
             drop(bytes);
             started(alloc, image, entries.as_slice(), stacks)
         }
-        Err(fault) => Err(Refusal::of_image(fault)),
+        Err(fault) => Err(CommandFault::of_image(fault)),
     }
 }
 
@@ -177,13 +181,13 @@ fn started(
     image: Image,
     entries: &[ClassName],
     stacks: bool,
-) -> Result<ImageStart, Refusal>
+) -> Result<ImageStart, CommandFault>
     ensures { IfOk result (λ start. IsBegunFrom image entries.now start.program (world_of start.world)) }
 {
     let _classes = image.program().classes();
     match copied_world(alloc, &image, entries, stacks) {
         Ok(again) => moved_start(alloc, image, entries, again),
-        Err(fault) => Err(Refusal::of_entry(fault)),
+        Err(fault) => Err(CommandFault::of_entry(fault)),
     }
 }
 
@@ -209,7 +213,7 @@ fn moved_start(
     image: Image,
     entries: &[ClassName],
     again: Option<World>,
-) -> Result<ImageStart, Refusal>
+) -> Result<ImageStart, CommandFault>
     requires { IsProgram image.program }
     ensures { IfOk result (λ start. IsBegunFrom image entries.now start.program (world_of start.world)) }
 {
@@ -219,6 +223,6 @@ fn moved_start(
             world,
             again,
         }),
-        Err(fault) => Err(Refusal::of_entry(fault)),
+        Err(fault) => Err(CommandFault::of_entry(fault)),
     }
 }

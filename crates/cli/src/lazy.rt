@@ -6,12 +6,12 @@ ghost use Rattle.init_engine.specs.declared.fault.EntryFault.TheVariants.{Count}
 ghost use Rattle.cli.specs.Begins.{IsBegun};
 ghost use Rattle.cli.specs.Runs.{IsProgramOf, IsRefused, IsShown, IsShownFrom, texts_of};
 ghost use Rattle.cli.specs.steps.Refusals.{IsRefusedEntry};
-ghost use Rattle.cli.specs.declared.fault.Refusal.TheVariants.{Entry, Memory};
+ghost use Rattle.cli.specs.declared.fault.CommandFault.TheVariants.{Entry, Memory};
 
 use crate::class_files::{linked_program, program_of_texts};
 use crate::entries::is_entry_count;
 use crate::files::contents;
-use crate::{Files, Lazy, Refusal, entries_of};
+use crate::{CommandFault, Files, Lazy, entries_of};
 use classfile::ClassName;
 use init_engine::{EntryFault, Rest, Seen, World};
 use program::Program;
@@ -46,7 +46,7 @@ pub fn run_class_files(
     files: &[Vec<u8>],
     entries: &[ClassName],
     limit: u64,
-) -> Result<LazyRun, Refusal>
+) -> Result<LazyRun, CommandFault>
     // The texts are class files that link to the program, the entries are its classes, and what is shown is what is
     // seen after the turns of its lazy start.
     ensures program { IfOk result (λ run. IsProgramOf (texts_of files.now) run.program) }
@@ -60,7 +60,7 @@ pub fn run_class_files(
     ensures count { (result ≡ Err (Entry Count)) ↔ (¬ IsEntryCount (length entries.now)) }
 {
     if !is_entry_count(entries.len()) {
-        return Err(Refusal::Entry(EntryFault::Count));
+        return Err(CommandFault::Entry(EntryFault::Count));
     }
     match lazy_start(alloc, files, entries) {
         Ok(LazyStart { program, world }) => {
@@ -98,7 +98,11 @@ pub(crate) struct LazyStart {
 }
 
 /// The lazy start of the program of class files.
-fn lazy_start(alloc: Global, files: &[Vec<u8>], entries: &[ClassName]) -> Result<LazyStart, Refusal>
+fn lazy_start(
+    alloc: Global,
+    files: &[Vec<u8>],
+    entries: &[ClassName],
+) -> Result<LazyStart, CommandFault>
     requires { IsEntryCount (length entries.now) }
     ensures program { IfOk result (λ start. IsProgramOf (texts_of files.now) start.program) }
     ensures start { IfOk result (λ start. IsStart start.program entries.now (world_of start.world)) }
@@ -112,14 +116,18 @@ fn lazy_start(alloc: Global, files: &[Vec<u8>], entries: &[ClassName]) -> Result
 }
 
 /// The lazy start of a program.
-fn started(alloc: Global, program: Program, entries: &[ClassName]) -> Result<LazyStart, Refusal>
+fn started(
+    alloc: Global,
+    program: Program,
+    entries: &[ClassName],
+) -> Result<LazyStart, CommandFault>
     ensures program { IfOk result (λ start. start.program ≡ program) }
     ensures start { IfOk result (λ start. IsStart start.program entries.now (world_of start.world)) }
     ensures refusal { IfErr result (λ refusal. (refusal ≡ Memory) ⊎ IsRefusedEntry program entries.now refusal) }
 {
     match World::lazy(alloc, &program, entries) {
         Ok(world) => Ok(LazyStart { program, world }),
-        Err(fault) => Err(Refusal::of_entry(fault)),
+        Err(fault) => Err(CommandFault::of_entry(fault)),
     }
 }
 
@@ -131,7 +139,7 @@ pub(crate) fn begin<F: Files>(
     alloc: Global,
     words: &Lazy<'_>,
     files: &mut F,
-) -> Result<LazyStart, Refusal>
+) -> Result<LazyStart, CommandFault>
     // The world is the lazy start of the program of the class files that the words name.
     ensures begun { IfOk result
         (λ start. IsBegun (F.holds files.old) words.now start.program (world_of start.world)) }

@@ -43,7 +43,7 @@ pub use command_line::{
     Audit, Build, Building, Explain, Lazy, Renew, Replay, Request, Run, WordsFault, line,
 };
 pub use entries::entries_of;
-pub use fault::Refusal;
+pub use fault::CommandFault;
 pub use files::{FileCause, FileFault, Files};
 pub use image_build::{GREATEST_LENGTH, build_image};
 pub use image_reader::ImageFault;

@@ -9,7 +9,7 @@ ghost use Rattle.cli.specs.Lists.{is_filled, list_of};
 ghost use Rattle.cli.specs.steps.Lists.{AreGivenAs, IsGivenAs, names_of};
 
 use crate::files::get;
-use crate::{Files, Refusal};
+use crate::{CommandFault, Files};
 use std::alloc::{AllocError, Global};
 
 /// A word for a class file or for some.
@@ -39,7 +39,7 @@ pub(crate) fn words_given<'a, F: Files>(
     alloc: Global,
     words: &[&'a str],
     files: &mut F,
-) -> Result<Vec<Given<'a>>, Refusal>
+) -> Result<Vec<Given<'a>>, CommandFault>
     ensures given { IfOk result (λ given. AreGivenAs (F.holds files.old) (texts words.now) given.items) }
     ensures same { F.holds files.new ≡ F.holds files.old }
 {
@@ -54,7 +54,11 @@ pub(crate) fn words_given<'a, F: Files>(
 }
 
 /// What a word stands for.
-fn given_as<'a, F: Files>(alloc: Global, word: &'a str, files: &mut F) -> Result<Given<'a>, Refusal>
+fn given_as<'a, F: Files>(
+    alloc: Global,
+    word: &'a str,
+    files: &mut F,
+) -> Result<Given<'a>, CommandFault>
     ensures given { IfOk result (IsGivenAs (F.holds files.old) word.now) }
     ensures same { F.holds files.new ≡ F.holds files.old }
 {
@@ -68,14 +72,14 @@ fn given_as<'a, F: Files>(alloc: Global, word: &'a str, files: &mut F) -> Result
 }
 
 /// The text of a list.
-fn list_text<F: Files>(alloc: Global, list: &str, files: &mut F) -> Result<String, Refusal>
+fn list_text<F: Files>(alloc: Global, list: &str, files: &mut F) -> Result<String, CommandFault>
     ensures text { IfOk result (λ text. AreBytesOf (F.holds files.old list.now) (string_bytes text)) }
     ensures same { F.holds files.new ≡ F.holds files.old }
 {
     let bytes = get(alloc, list, files)?;
     match String::from_utf8(bytes) {
         Ok(text) => Ok(text),
-        Err(_) => Err(Refusal::of_list(alloc, list)),
+        Err(_) => Err(CommandFault::of_list(alloc, list)),
     }
 }
 

@@ -2,7 +2,7 @@
 //!
 //! Standard error is a trait, so that no function that tells something has the parts of a `Voice` among its locals.
 
-use crate::{Refusal, Request};
+use crate::{CommandFault, Request};
 use classfile::{ClassFault, ClassName};
 use init_engine::EntryFault;
 use loading::fault::{BadParent, LinkFault};
@@ -24,7 +24,7 @@ pub(crate) trait Errors {
     fn tell(&mut self, text: &str);
 
     /// Tells a refusal, and then what it means, if that is asked for.
-    fn refuse(&mut self, refusal: &Refusal);
+    fn refuse(&mut self, refusal: &CommandFault);
 
     /// Tells that memory was refused, and then what was at work, if that is asked for.
     fn refuse_memory(&mut self, work: &str);
@@ -84,7 +84,7 @@ impl<E: Write> Errors for Voice<'_, E> {
         let _ = self.errors.flush();
     }
 
-    fn refuse(&mut self, refusal: &Refusal) {
+    fn refuse(&mut self, refusal: &CommandFault) {
         let _ = writeln!(self.errors, "preinit: {refusal}");
         if self.is_verbose {
             self.untold = left_untold(self.alloc, refusal);
@@ -96,7 +96,7 @@ impl<E: Write> Errors for Voice<'_, E> {
     }
 
     fn refuse_memory(&mut self, work: &str) {
-        let refusal = Refusal::Memory;
+        let refusal = CommandFault::Memory;
         let _ = writeln!(self.errors, "preinit: {refusal}");
         if self.is_verbose {
             let meaning = meaning(&refusal);
@@ -130,10 +130,10 @@ fn range_in(text: &str) -> Option<&'static str> {
 }
 
 /// What takes the names of the class files to be told of a refusal. None where memory for it is refused.
-fn left_untold(alloc: Global, refusal: &Refusal) -> Option<Untold> {
+fn left_untold(alloc: Global, refusal: &CommandFault) -> Option<Untold> {
     match refusal {
-        Refusal::Class(place, fault) => Some(Untold::Class(*place, class_meaning(fault))),
-        Refusal::Link(LinkFault::Parent { name, kind }) => match kind {
+        CommandFault::Class(place, fault) => Some(Untold::Class(*place, class_meaning(fault))),
+        CommandFault::Link(LinkFault::Parent { name, kind }) => match kind {
             BadParent::UnknownSuperclass | BadParent::UnknownInterface => untold_child(alloc, name),
             _ => None,
         },
@@ -150,10 +150,10 @@ fn untold_child(alloc: Global, name: &ClassName) -> Option<Untold> {
 }
 
 /// Writes what a refusal means, as a line.
-fn write_meaning<E: Write>(errors: &mut E, refusal: &Refusal) -> io::Result<()> {
+fn write_meaning<E: Write>(errors: &mut E, refusal: &CommandFault) -> io::Result<()> {
     match refusal {
-        Refusal::File(name, cause) => writeln!(errors, "{name}: {cause}"),
-        Refusal::List(name) => writeln!(errors, "{name}: it is a list that is not UTF-8"),
+        CommandFault::File(name, cause) => writeln!(errors, "{name}: {cause}"),
+        CommandFault::List(name) => writeln!(errors, "{name}: it is a list that is not UTF-8"),
         _ => {
             let meaning = meaning(refusal);
             writeln!(errors, "{meaning}")
@@ -162,22 +162,23 @@ fn write_meaning<E: Write>(errors: &mut E, refusal: &Refusal) -> io::Result<()> 
 }
 
 /// What a refusal means that names no file.
-fn meaning(refusal: &Refusal) -> &'static str {
+fn meaning(refusal: &CommandFault) -> &'static str {
     match refusal {
-        Refusal::Memory => "the system gave no more memory",
-        Refusal::Link(fault) => link_meaning(fault),
-        Refusal::Image(_) => "the file is no image, or was changed: build it again",
-        Refusal::Entry(fault) => entry_meaning(fault),
-        Refusal::Option(_) => {
+        CommandFault::Memory => "the system gave no more memory",
+        CommandFault::Link(fault) => link_meaning(fault),
+        CommandFault::Image(_) => "the file is no image, or was changed: build it again",
+        CommandFault::Entry(fault) => entry_meaning(fault),
+        CommandFault::Option(_) => {
             "an item of a list is empty or names no class, or a class can't be what it asks for"
         }
-        Refusal::Budget => BUDGETS,
-        Refusal::Wave(_) => WORKERS,
-        Refusal::Text(_) => "a line of a journal is a thread, one space and a number of steps",
-        Refusal::Turn(_) => "the thread of this line is not there, or has no such steps",
-        Refusal::Spawn => "the system started no thread",
-        Refusal::Device => "standard output was closed, or its device is full",
-        Refusal::Class(..) | Refusal::File(..) | Refusal::List(_) => "a file is wrong",
+        CommandFault::Budget => BUDGETS,
+        CommandFault::Wave(_) => WORKERS,
+        CommandFault::Text(_) => "a line of a journal is a thread, one space and a number of steps",
+        CommandFault::Turn(_) => "the thread of this line is not there, or has no such steps",
+        CommandFault::Spawn => "the system started no thread",
+        CommandFault::Device => "standard output was closed, or its device is full",
+        CommandFault::Class(..) | CommandFault::File(..) | CommandFault::List(_) =>
+            "a file is wrong",
     }
 }
 

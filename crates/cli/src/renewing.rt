@@ -5,10 +5,10 @@ ghost use Rattle.image_format.specs.Regions.{ImageRegion as Told};
 ghost use Rattle.image_format.specs.Images.{ImageText};
 ghost use Rattle.cli.specs.Done.{HasRenewed};
 ghost use Rattle.cli.specs.Renewals.{IsNoImage, IsRenewed};
-ghost use Rattle.cli.specs.declared.fault.Refusal.TheVariants.{Memory};
+ghost use Rattle.cli.specs.declared.fault.CommandFault.TheVariants.{Memory};
 
 use crate::files::{get, put};
-use crate::{Files, Refusal, Renew};
+use crate::{CommandFault, Files, Renew};
 use image_reader::read;
 use image_writer::image_text;
 use std::alloc::Global;
@@ -17,7 +17,7 @@ use std::alloc::Global;
 ///
 /// # Errors
 /// `Image` where the bytes are no image; or `Memory`.
-pub fn renewed_image(alloc: Global, bytes: &[u8]) -> Result<Vec<u8>, Refusal>
+pub fn renewed_image(alloc: Global, bytes: &[u8]) -> Result<Vec<u8>, CommandFault>
     // What is answered is the text of an image whose text, of either version, was read.
     ensures image { IfOk result (λ renewed. IsRenewed bytes.now renewed.items) }
     // A text of version 2 is answered as it is.
@@ -29,9 +29,9 @@ pub fn renewed_image(alloc: Global, bytes: &[u8]) -> Result<Vec<u8>, Refusal>
     match read(alloc, bytes) {
         Ok(image) => match image_text(alloc, &image) {
             Ok(renewed) => Ok(renewed),
-            Err(_) => Err(Refusal::Memory),
+            Err(_) => Err(CommandFault::Memory),
         },
-        Err(fault) => Err(Refusal::of_image(fault)),
+        Err(fault) => Err(CommandFault::of_image(fault)),
     }
 }
 
@@ -39,7 +39,11 @@ pub fn renewed_image(alloc: Global, bytes: &[u8]) -> Result<Vec<u8>, Refusal>
 ///
 /// # Errors
 /// The first refusal: the image's file, the image, the new file, or memory.
-pub(crate) fn run<F: Files>(alloc: Global, words: &Renew<'_>, files: &mut F) -> Result<(), Refusal>
+pub(crate) fn run<F: Files>(
+    alloc: Global,
+    words: &Renew<'_>,
+    files: &mut F,
+) -> Result<(), CommandFault>
     ensures { OnOk result (HasRenewed (F.holds files.old) (F.holds files.new) words.now) }
 {
     let bytes = get(alloc, words.image, files)?;

@@ -5,7 +5,7 @@ ghost use Rattle.report.specs.Texts.{report_text};
 ghost use Rattle.report.specs.Waves.{GiveWaves};
 
 use crate::requested::asked_build;
-use crate::{Building, Files, Refusal, Watch};
+use crate::{Building, CommandFault, Files, Watch};
 use building::Built;
 use report::render;
 use sinks::Out;
@@ -23,7 +23,7 @@ pub(crate) fn run<R: Threads + Wait + Sync, F: Files, H: Watch + Sync>(
     words: &Building<'_>,
     files: &mut F,
     watch: &H,
-) -> Result<Vec<u8>, Refusal>
+) -> Result<Vec<u8>, CommandFault>
     ensures report { IfOk result (λ bytes. IsReport (F.holds files.old) words.now bytes.items) }
     ensures same { F.holds files.new ≡ F.holds files.old }
 {

@@ -4,7 +4,7 @@ ghost use Rattle.cli.specs.Requested.{IsAskedBuild, options_of as asked_of};
 
 use crate::files::contents;
 use crate::watching::build_watched;
-use crate::{Building, Files, Refusal, Stage, Watch};
+use crate::{Building, CommandFault, Files, Stage, Watch};
 use building::{BuildFault, BuildOptions, Built};
 use options::OptionFault;
 use std::alloc::Global;
@@ -32,7 +32,7 @@ pub(crate) fn asked_build<R: Threads + Wait + Sync, F: Files, H: Watch + Sync>(
     words: &Building<'_>,
     files: &mut F,
     watch: &H,
-) -> Result<Built, Refusal>
+) -> Result<Built, CommandFault>
     ensures build { IfOk result (IsAskedBuild (F.holds files.old) words.now) }
     ensures same { F.holds files.new ≡ F.holds files.old }
 {
@@ -45,20 +45,20 @@ pub(crate) fn asked_build<R: Threads + Wait + Sync, F: Files, H: Watch + Sync>(
 }
 
 /// The refusal of a build.
-pub(crate) fn refusal_of(alloc: Global, fault: BuildFault) -> Refusal {
+pub(crate) fn refusal_of(alloc: Global, fault: BuildFault) -> CommandFault {
     match fault {
-        BuildFault::Memory => Refusal::Memory,
-        BuildFault::Class(place, fault) => Refusal::Class(place, fault),
-        BuildFault::Link(fault) => Refusal::Link(fault),
+        BuildFault::Memory => CommandFault::Memory,
+        BuildFault::Class(place, fault) => CommandFault::Class(place, fault),
+        BuildFault::Link(fault) => CommandFault::Link(fault),
         BuildFault::Option(fault) => option_refusal(alloc, &fault),
-        BuildFault::Budget => Refusal::Budget,
-        BuildFault::Wave(fault) => Refusal::Wave(fault),
+        BuildFault::Budget => CommandFault::Budget,
+        BuildFault::Wave(fault) => CommandFault::Wave(fault),
     }
 }
 
-fn option_refusal(alloc: Global, fault: &OptionFault) -> Refusal {
+fn option_refusal(alloc: Global, fault: &OptionFault) -> CommandFault {
     match fault.to_string(alloc) {
-        Ok(text) => Refusal::Option(text),
-        Err(_) => Refusal::Memory,
+        Ok(text) => CommandFault::Option(text),
+        Err(_) => CommandFault::Memory,
     }
 }

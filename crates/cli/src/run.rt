@@ -8,7 +8,7 @@ ghost use Rattle.cli.specs.Done.{AskFor, DidWords, HasEndedByTurns, HasEndedWith
 ghost use Rattle.cli.specs.Done.{IsWritten, IsWrittenTo};
 ghost use Rattle.cli.specs.Journaled.{IsOutcome};
 ghost use Rattle.cli.specs.Outputs.{IsApart};
-ghost use Rattle.cli.specs.Refusal.{refusal_status};
+ghost use Rattle.cli.specs.CommandFault.{refusal_status};
 ghost use Rattle.cli.specs.Running.{IsCutShort, IsOfRun};
 ghost use Rattle.cli.specs.steps.Lists.{AreGivenAs};
 ghost use Rattle.cli.specs.Status.{IsOver, code_of, run_status};
@@ -27,8 +27,9 @@ use crate::telling::{
 };
 use crate::untold::tell_untold;
 use crate::{
-    CutShort, Files, Lazy, Ran, Refusal, Replay, Request, Run, Status, Unwatched, Watch, auditing,
-    explaining, image_build, image_run, lazy, line, renewing, reporting, run_world, status_of,
+    CommandFault, CutShort, Files, Lazy, Ran, Replay, Request, Run, Status, Unwatched, Watch,
+    auditing, explaining, image_build, image_run, lazy, line, renewing, reporting, run_world,
+    status_of,
 };
 use init_engine::World;
 use journal::Journal;
@@ -196,7 +197,7 @@ fn do_asked<R: Threads + Wait + Sync, F: Files, W: Write + Send + Drop, E: Write
 fn refuse_asked<E: Write>(
     alloc: Global,
     asked: &Request<'_>,
-    refusal: &Refusal,
+    refusal: &CommandFault,
     errors: &mut E,
 ) -> Status
     ensures { result ≡ refusal_status refusal.now }
@@ -243,7 +244,7 @@ fn do_listed<
             do_given(rt, alloc, &request, files, out, errors, watch)
         }
         Err(_) => {
-            let status = refuse_asked(alloc, &asked, &Refusal::Memory, errors);
+            let status = refuse_asked(alloc, &asked, &CommandFault::Memory, errors);
             (status, Held::Nothing, out)
         }
     }
@@ -447,7 +448,7 @@ fn run_as_said<R: Threads + Wait + Sync, W: Write + Send + Drop>(
     world: World,
     words: &Run<'_>,
     mut out: W,
-) -> (Result<Journaled, Refusal>, W)
+) -> (Result<Journaled, CommandFault>, W)
     ensures { IsOutcome program.now (world_of world) (W.contents out) (W.contents result.1) result.0 }
 {
     if words.turns {
@@ -464,13 +465,13 @@ fn ran_by_turns<W: Write>(
     world: World,
     limit: u64,
     out: &mut W,
-) -> Result<Journaled, Refusal>
+) -> Result<Journaled, CommandFault>
     ensures { IsOutcome program.now (world_of world) (W.contents out.old) (W.contents out.new) result }
 {
     match run_world(alloc, program, world, limit, out) {
         Ok(ran) => Ok(journaled(ran)),
-        Err(CutShort::Memory) => Err(Refusal::Memory),
-        Err(CutShort::Device) => Err(Refusal::Device),
+        Err(CutShort::Memory) => Err(CommandFault::Memory),
+        Err(CutShort::Device) => Err(CommandFault::Device),
     }
 }
 
@@ -544,7 +545,7 @@ fn write_journal<F: Files>(
     name: &str,
     journal: &Journal,
     files: &mut F,
-) -> Result<(), Refusal>
+) -> Result<(), CommandFault>
     ensures { OnOk result
         (IsWrittenTo (F.holds files.old) (F.holds files.new) name.now (schedule_of journal.now)) }
 {
@@ -592,8 +593,8 @@ fn run_from<W: Write, E: Errors>(
 {
     match run_world(alloc, program, world, words.limit, out) {
         Ok(ran) => tell_turns(alloc, program, words, &ran, errors),
-        Err(CutShort::Memory) => refuse(&Refusal::Memory, errors),
-        Err(CutShort::Device) => refuse(&Refusal::Device, errors),
+        Err(CutShort::Memory) => refuse(&CommandFault::Memory, errors),
+        Err(CutShort::Device) => refuse(&CommandFault::Device, errors),
     }
 }
 

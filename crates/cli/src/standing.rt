@@ -5,7 +5,7 @@ ghost use Rattle.cli.specs.Status.{IsOver};
 
 use crate::meanings::Errors;
 use crate::telling::refuse;
-use crate::{Refusal, Status, entries_of};
+use crate::{CommandFault, Status, entries_of};
 use init_engine::World;
 use program::Program;
 use stacks::{stack_lines, stacks};
@@ -61,7 +61,11 @@ pub(crate) fn tell_image_stacks<E: Errors>(
 }
 
 /// Tells stacks after a run with this status.
-fn tell_stacks<E: Errors>(stacks: Result<String, Refusal>, status: Status, errors: &mut E) -> Status
+fn tell_stacks<E: Errors>(
+    stacks: Result<String, CommandFault>,
+    status: Status,
+    errors: &mut E,
+) -> Status
     requires { status ≢ Status.Words }
     ensures words { result ≢ Status.Words }
     ensures done { IsOver result → result ≡ status }
@@ -81,13 +85,13 @@ fn lazy_stacks(
     program: &Program,
     list: &str,
     runs: &[(u32, u64)],
-) -> Result<String, Refusal>
+) -> Result<String, CommandFault>
     requires { AreRuns runs.now }
 {
     let entries = entries_of(alloc, list)?;
     match World::lazy(alloc, program, entries.as_slice()) {
         Ok(first) => stacks_from(alloc, program, first, runs),
-        Err(fault) => Err(Refusal::of_entry(fault)),
+        Err(fault) => Err(CommandFault::of_entry(fault)),
     }
 }
 
@@ -97,11 +101,11 @@ fn stacks_from(
     program: &Program,
     first: World,
     runs: &[(u32, u64)],
-) -> Result<String, Refusal>
+) -> Result<String, CommandFault>
     requires { AreRuns runs.now }
 {
     match stacks(alloc, program, first, runs) {
         Ok(stacks) => Ok(stack_lines(alloc, program, &stacks)?),
-        Err(fault) => Err(Refusal::of_replay(fault)),
+        Err(fault) => Err(CommandFault::of_replay(fault)),
     }
 }

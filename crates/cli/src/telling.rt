@@ -3,7 +3,7 @@ ghost use Rattle.std.specs.Prelude.{◌≡◌, ◌≢◌, ◌⊎◌, IsOk, IsOkA
 ghost use Rattle.std.specs.Io.KnownBytes.{Appends};
 ghost use Rattle.vm_state.specs.Output.{text_of};
 ghost use Rattle.cli.specs.Done.{HasHelped};
-ghost use Rattle.cli.specs.Refusal.{refusal_status};
+ghost use Rattle.cli.specs.CommandFault.{refusal_status};
 ghost use Rattle.cli.specs.Status.{IsOver, audit_status};
 
 use crate::auditing::Audited;
@@ -12,7 +12,7 @@ use crate::meanings::Errors;
 use crate::outputs::Clash;
 use crate::running::send_seen;
 use crate::standing::tell_image_stacks;
-use crate::{CutShort, Refusal, Request, Stage, Status, Watch, WordsFault, thread_lines};
+use crate::{CommandFault, CutShort, Request, Stage, Status, Watch, WordsFault, thread_lines};
 use init_engine::Ending;
 use program::Program;
 use std::alloc::Global;
@@ -36,8 +36,8 @@ pub(crate) fn tell_replay<W: Write, E: Errors>(
 {
     match send_seen(&replayed.seen, out) {
         Ok(()) => tell_replay_threads(alloc, replayed, status, errors),
-        Err(CutShort::Memory) => (refuse(&Refusal::Memory, errors), replayed.program),
-        Err(CutShort::Device) => (refuse(&Refusal::Device, errors), replayed.program),
+        Err(CutShort::Memory) => (refuse(&CommandFault::Memory, errors), replayed.program),
+        Err(CutShort::Device) => (refuse(&CommandFault::Device, errors), replayed.program),
     }
 }
 
@@ -80,12 +80,12 @@ pub(crate) fn tell_endings<E: Errors>(
             errors.tell(lines.as_str());
             status
         }
-        Err(_) => refuse(&Refusal::Memory, errors),
+        Err(_) => refuse(&CommandFault::Memory, errors),
     }
 }
 
 /// Tells why a command that has nothing else to tell was refused, if it was.
-pub(crate) fn tell_done<E: Errors>(done: Result<(), Refusal>, errors: &mut E) -> Status
+pub(crate) fn tell_done<E: Errors>(done: Result<(), CommandFault>, errors: &mut E) -> Status
     ensures words { result ≢ Status.Words }
     ensures done { IsOver result → (result ≡ Status.Done) × IsOk done }
 {
@@ -98,7 +98,7 @@ pub(crate) fn tell_done<E: Errors>(done: Result<(), Refusal>, errors: &mut E) ->
 /// Tells that a build is over, and why it was refused, if it was.
 pub(crate) fn tell_built<E: Errors, H: Watch>(
     alloc: Global,
-    built: Result<(), Refusal>,
+    built: Result<(), CommandFault>,
     watch: &H,
     errors: &mut E,
 ) -> Status
@@ -115,7 +115,7 @@ pub(crate) fn tell_built<E: Errors, H: Watch>(
 /// Tells that a build is over, and what is to be told of it, or why there is none.
 pub(crate) fn tell_report<W: Write, E: Errors, H: Watch>(
     alloc: Global,
-    report: Result<Vec<u8>, Refusal>,
+    report: Result<Vec<u8>, CommandFault>,
     out: &mut W,
     watch: &H,
     errors: &mut E,
@@ -134,7 +134,7 @@ pub(crate) fn tell_report<W: Write, E: Errors, H: Watch>(
 
 /// Tells an audit, or why there is none.
 pub(crate) fn tell_audit<W: Write, E: Errors>(
-    audit: Result<Audited, Refusal>,
+    audit: Result<Audited, CommandFault>,
     out: &mut W,
     errors: &mut E,
 ) -> Status
@@ -153,7 +153,7 @@ pub(crate) fn tell_audit<W: Write, E: Errors>(
 }
 
 /// Tells a refusal on standard error.
-pub(crate) fn refuse<E: Errors>(refusal: &Refusal, errors: &mut E) -> Status
+pub(crate) fn refuse<E: Errors>(refusal: &CommandFault, errors: &mut E) -> Status
     ensures { result ≡ refusal_status refusal.now }
 {
     errors.refuse(refusal);
@@ -163,13 +163,13 @@ pub(crate) fn refuse<E: Errors>(refusal: &Refusal, errors: &mut E) -> Status
 /// Tells why a build is refused; and what it was at, where memory was refused for it.
 fn refuse_build<E: Errors, H: Watch>(
     alloc: Global,
-    refusal: &Refusal,
+    refusal: &CommandFault,
     watch: &H,
     errors: &mut E,
 ) -> Status
     ensures { result ≡ refusal_status refusal.now }
 {
-    if matches!(refusal, Refusal::Memory)
+    if matches!(refusal, CommandFault::Memory)
         && let Some(work) = watch.work(alloc)
     {
         errors.refuse_memory(work.as_str());
@@ -191,7 +191,7 @@ pub(crate) fn tell_words<W: Write, E: Errors>(
     ensures done { IsOver result → HasHelped (W.contents out.old) (W.contents out.new) result }
 {
     match fault {
-        WordsFault::Memory => refuse(&Refusal::Memory, errors),
+        WordsFault::Memory => refuse(&CommandFault::Memory, errors),
         WordsFault::Help(text) => tell_text(text.as_bytes(), out, errors),
         WordsFault::Wrong(text) => {
             errors.wrong(text.as_str());
@@ -208,7 +208,7 @@ fn tell_text<W: Write, E: Errors>(text: &[u8], out: &mut W, errors: &mut E) -> S
         × Appends (W.contents out.old) (W.contents out.new) text.now }
 {
     if out.write_all(text).is_err() || out.flush().is_err() {
-        return refuse(&Refusal::Device, errors);
+        return refuse(&CommandFault::Device, errors);
     }
     Status::Done
 }

@@ -4,7 +4,7 @@ ghost use Rattle.std.specs.Prelude.{◌≡◌};
 use crate::class_files::class_files;
 use crate::files::contents;
 use crate::meanings::Untold;
-use crate::{Files, Refusal};
+use crate::{CommandFault, Files};
 use built_in::class_id::BuiltIn;
 use classfile::{ClassFile, ClassName, printed};
 use std::alloc::{AllocError, Global};
@@ -59,7 +59,7 @@ fn read_again<F: Files>(
     alloc: Global,
     names: &[&str],
     files: &mut F,
-) -> Result<Vec<ClassFile>, Refusal>
+) -> Result<Vec<ClassFile>, CommandFault>
     ensures { F.holds files.new ≡ F.holds files.old }
 {
     let texts = contents(alloc, names, files, usize::MAX)?;

@@ -9,7 +9,7 @@ mod progress;
 
 ghost use Rattle.std.specs.Thread.{IsSend, IsSync};
 
-use cli::{CommandEnd, Refusal, Status, Unwatched, command_holding};
+use cli::{CommandEnd, CommandFault, Status, Unwatched, command_holding};
 use disk::Disk;
 use progress::ProgressLine;
 use std::io::{self, ErrorKind, IsTerminal, Write};
@@ -181,7 +181,7 @@ fn main(rt: HostRuntime) -> ExitCode {
     let status = match run(&rt, rt.stdout(), &mut errors, terminal) {
         Ok(status) => status,
         Err(NoCommand::Memory) => {
-            let refusal = Refusal::Memory;
+            let refusal = CommandFault::Memory;
             let _ = writeln!(errors, "preinit: {refusal}");
             refusal.status().code()
         }

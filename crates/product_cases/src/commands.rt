@@ -4,7 +4,7 @@ use crate::class_bytes::number;
 use crate::command_runs::{self, words_of};
 use crate::shelf::Shelf;
 use cli::{
-    Audit, Build, Building, Explain, Lazy, Refusal, Renew, Replay, Request, Rest, Run, Status,
+    Audit, Build, Building, CommandFault, Explain, Lazy, Renew, Replay, Request, Rest, Run, Status,
     entries_of, line, linked_program, status_of, thread_lines,
 };
 use init_engine::Ending;
@@ -274,7 +274,7 @@ fn of_program(alloc: Global, shelf: &Shelf, names: &str) -> Result<String, Alloc
     }
 }
 
-fn refusal_text(alloc: Global, refusal: &Refusal) -> Result<String, AllocError> {
+fn refusal_text(alloc: Global, refusal: &CommandFault) -> Result<String, AllocError> {
     let status = refusal.status();
     format!(in alloc; "{refusal}, {status:?}")
 }

@@ -8,27 +8,27 @@ use Rattle.loading.specs.declared.fault.LinkFault.{LinkFault}
 use Rattle.program.specs.Tables.{Tables}
 use Rattle.init_engine.specs.Starts.{EntriesFail}
 use Rattle.init_engine.specs.declared.fault.EntryFault.{EntryFault}
-use Rattle.cli.specs.declared.fault.Refusal.{Refusal}
-use Rattle.cli.specs.declared.fault.Refusal.TheVariants.{Class, Link, Entry, Memory}
+use Rattle.cli.specs.declared.fault.CommandFault.{CommandFault}
+use Rattle.cli.specs.declared.fault.CommandFault.TheVariants.{Class, Link, Entry, Memory}
 use Rattle.cli.specs.Runs.{IsFirstBad, IsProgramOf, NotLinked}
 
 -- the text of a place is no class file
-pub data IsBadAt (place : ℕ) (text : List ℕ) : Refusal → Type 0 where
+pub data IsBadAt (place : ℕ) (text : List ℕ) : CommandFault → Type 0 where
   bad : {fault : ClassFault} → FirstFault text fault → IsBadAt place text (Class place fault)
 
 -- one of some texts is no class file, and none before it
-pub data IsNoClassFile (texts : List (List ℕ)) : Refusal → Type 0 where
+pub data IsNoClassFile (texts : List (List ℕ)) : CommandFault → Type 0 where
   first : {place : ℕ} {fault : ClassFault} → IsFirstBad texts place fault → IsNoClassFile texts (Class place fault)
 
 -- some class files make no program
-pub data IsUnlinkable (files : List ClassFile) : Refusal → Type 0 where
+pub data IsUnlinkable (files : List ClassFile) : CommandFault → Type 0 where
   unlinkable : {fault : LinkFault} → LinkFails files fault → IsUnlinkable files (Link fault)
 
 -- some texts make a program, or it is told why not
-pub record MakesProgram (texts : List (List ℕ)) (r : Result Tables Refusal) : Type 0 where
+pub record MakesProgram (texts : List (List ℕ)) (r : Result Tables CommandFault) : Type 0 where
   pub program : IfOk r (λ program. IsProgramOf texts program)
   pub refusal : IfErr r (λ refusal. (refusal ≡ Memory) ⊎ NotLinked texts refusal)
 
 -- entries can't be run in a program
-pub data IsRefusedEntry (P : Tables) (names : List (List ℕ)) : Refusal → Type 0 where
+pub data IsRefusedEntry (P : Tables) (names : List (List ℕ)) : CommandFault → Type 0 where
   refused : {fault : EntryFault} → EntriesFail P names fault → IsRefusedEntry P names (Entry fault)

@@ -1,6 +1,6 @@
 use Rattle.std.proofs.Common.{◌∙◌, sym}
 use Rattle.init_engine.specs.Turns.{world_of}
-use Rattle.cli.specs.Refusal.{refusal_status}
+use Rattle.cli.specs.CommandFault.{refusal_status}
 use Rattle.cli.proofs.JournaledLemmas.{cut_if_refused, ended_with_journal, journaled_cut_at_end}
 use Rattle.cli.proofs.run.run_and_tell.Goals as goal
 
