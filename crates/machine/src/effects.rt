@@ -24,6 +24,7 @@ ghost use Rattle.machine.specs.Effects.{HasPrinted, IsEmpty, IsStep, IsStopped, 
 
 use crate::execute::execute;
 use crate::kinds::{Actor, Conclusion, Effect, Stop};
+pub use crate::moving::receive;
 use crate::moving::{Left, conclude};
 use crate::unwinding::{Unwound, unwind};
 use built_in::class_id::ClassId;

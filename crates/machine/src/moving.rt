@@ -16,14 +16,14 @@ use vm_state::spares::Spares;
 use vm_state::text::Text;
 use vm_state::value::{Fault, Name, Value};
 
-/// What is left of the frames, which are as they were where they do not stand so.
+/// What is left of the frames. Where the thread does not go on in them they are as they were.
 #[derive(Drop)]
 pub enum Left {
-    /// The thread goes on in them.
+    /// These, as they are now.
     Stands,
-    /// Nothing: the last one returns.
+    /// None: the last one returned.
     Nothing,
-    /// A value that is returned, for which this caller, which was taken off, has no room.
+    /// Nothing to go on in: this caller has no room for the value returned. It alone was taken off.
     NoRoom(Frame),
     /// A text to print, after which the innermost goes on without this number of operands.
     Prints { text: Text, operands: usize },

@@ -1,4 +1,4 @@
-use Rattle.std.proofs.Common.{◌≡◌, refl, rules}
+use Rattle.std.proofs.Common.{refl, rules}
 use Rattle.semantics.specs.Rows.{Returns}
 use Rattle.machine.proofs.moving.leave.Goals as goal
 
