@@ -43,8 +43,8 @@ run_by P env budget n c (found.Refused why) o held stops (so, none) = rw none (r
 pub all_follow : (P : Tables) (budget : ℕ) (judged : List Verdict) (waves : List (Vec ℕ Global)) (old new : Settled)
     → AreJudged P judged → AreMembersOfAll judged (rows_of waves) → AreTriedBelow P budget judged (length waves) old
     → GivesFirst P old new → FollowVerdicts P budget judged new
-all_follow P budget judged waves old new (forced, are) members_are tried (first, (marks, refused, firsts), told) =
+all_follow P budget judged waves old new (forced, are) members_are tried (first, (flags, refused, firsts), told) =
     let below : AreTriedBelow P budget judged (length (rows_of waves)) old =
     subst (λ (n : ℕ). AreTriedBelow P budget judged n old) (sym (length-rows_of waves)) tried in
-    waves_end_lem P forced budget judged (length (rows_of waves)) old new marks first are below
+    waves_end_lem P forced budget judged (length (rows_of waves)) old new flags first are below
     (λ c m at. waves_low judged (rows_of waves) members_are c m at) refused firsts told
