@@ -15,9 +15,9 @@ use Rattle.image_format.specs.Objects.{region_in}
 use Rattle.image_format.specs.Regions.{ImageRegion}
 use Rattle.image_format.specs.declared.version.Version.{Version}
 use Rattle.image_parser.specs.declared.fault.RegionFault.{RegionFault}
-use Rattle.image_parser.specs.declared.fault.MarksFault.{MarksFault}
-use Rattle.image_parser.specs.MarkFaults.{FailsIn, numbers}
-use Rattle.image_parser.specs.reading.Marks.{inside_at, mark_in, marks_at}
+use Rattle.image_parser.specs.declared.fault.FlagsFault.{FlagsFault}
+use Rattle.image_parser.specs.FlagFaults.{FailsIn, numbers}
+use Rattle.image_parser.specs.reading.Flags.{inside_at, flag_in, flags_at}
 use Rattle.image_parser.specs.reading.Results.{each_at}
 use Rattle.image_parser.specs.reading.Held.{AddsStrings, HoldsClass, HoldsRegions}
 use Rattle.image_parser.specs.reading.Reads.{IsHeld}
@@ -58,7 +58,7 @@ pub record HoldsBelow (P Q : Tables) (told : List (Option ImageRegion)) (n : ℕ
   pub same : (other : Environment) → HoldsRegions P.strings told other → Q ≡ P
 
 -- what is read so far, and what is still to be read gives all
-pub record MarksSoFar {Y E : Type 0} (P Q : Tables) (n : ℕ) (env : Environment)
+pub record FlagsSoFar {Y E : Type 0} (P Q : Tables) (n : ℕ) (env : Environment)
     (read : List (Option ImageRegion) → Result Y E) (all : Result Y E) : Type 0 where
   pub told : List (Option ImageRegion)
   pub below : HoldsBelow P Q told n env
@@ -122,16 +122,16 @@ below_more P Q R told n old new region answer read before h added = record {
 pub all_read : (version : Version) (P Q : Tables) (n : ℕ) (env : Environment) (bytes rest : List ℕ)
     → n ≡ length P.family
     → IsHeld HoldsRegions P Q env (λ told. (told, rest))
-    (each_at (mark_in version P.family) (numbers 0 n) [] bytes)
-    → IsHeld HoldsRegions P Q env (λ told. (told, rest)) (marks_at version P.family bytes)
-unfolding marks_at
+    (each_at (flag_in version P.family) (numbers 0 n) [] bytes)
+    → IsHeld HoldsRegions P Q env (λ told. (told, rest)) (flags_at version P.family bytes)
+unfolding flags_at
 all_read version P Q n env bytes rest many h =
     subst (λ (k : ℕ). IsHeld HoldsRegions P Q env (λ told. (told, rest))
-    (each_at (mark_in version P.family) (numbers 0 k) [] bytes)) many h
+    (each_at (flag_in version P.family) (numbers 0 k) [] bytes)) many h
 
-pub all_fail : (version : Version) (P : Tables) (n : ℕ) (fault : MarksFault) (bytes : List ℕ) → n ≡ length P.family
-    → FailsIn fault (each_at (mark_in version P.family) (numbers 0 n) [] bytes)
-    → FailsIn fault (marks_at version P.family bytes)
-unfolding marks_at
+pub all_fail : (version : Version) (P : Tables) (n : ℕ) (fault : FlagsFault) (bytes : List ℕ) → n ≡ length P.family
+    → FailsIn fault (each_at (flag_in version P.family) (numbers 0 n) [] bytes)
+    → FailsIn fault (flags_at version P.family bytes)
+unfolding flags_at
 all_fail version P n fault bytes many h =
-    subst (λ (k : ℕ). FailsIn fault (each_at (mark_in version P.family) (numbers 0 k) [] bytes)) many h
+    subst (λ (k : ℕ). FailsIn fault (each_at (flag_in version P.family) (numbers 0 k) [] bytes)) many h

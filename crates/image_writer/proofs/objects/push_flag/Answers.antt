@@ -1,7 +1,7 @@
 use Rattle.std.proofs.Common.{sym}
 use Rattle.region_shape.specs.Regions.{region_of, environment_of}
 use Rattle.image_writer.proofs.SizesLemmas.{region_sized}
-use Rattle.image_writer.proofs.objects.push_mark.Goals as goal
+use Rattle.image_writer.proofs.objects.push_flag.Goals as goal
 
 pub push_region-requires-clause-sized : goal.push_region-requires-clause-sized
 push_region-requires-clause-sized c =

@@ -1,7 +1,7 @@
 use Rattle.std.proofs.Common.{refl}
 use Rattle.region_shape.specs.Regions.{region_of}
 use Rattle.image_parser.proofs.ObjectReadsLemmas.{some_held}
-use Rattle.image_parser.proofs.marks.some_at.Goals as goal
+use Rattle.image_parser.proofs.flags.some_at.Goals as goal
 
 pub returns : goal.returns
 returns c =

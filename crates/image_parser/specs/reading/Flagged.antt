@@ -11,7 +11,7 @@ use Rattle.object_graph.specs.Idle.{AreReachedOf, IsFirstIdle}
 use Rattle.image_parser.specs.declared.fault.RegionsFault.{RegionsFault}
 use Rattle.image_parser.specs.declared.fault.RegionsFault.TheVariants as faults
 use Rattle.image_parser.specs.AllRegions.{RegionsText}
-use Rattle.image_parser.specs.MarkFaults.{AreMarks}
+use Rattle.image_parser.specs.FlagFaults.{AreFlags}
 use Rattle.image_parser.specs.Regions.{Begins}
 use Rattle.image_parser.specs.reading.Held.{AddsStrings, HoldsRegions}
 
@@ -31,11 +31,11 @@ pub data IsIdleFault (version : Version) (P : Tables) (regions : List (Option Re
   idle : {c : ℕ} → version ≡ versions.Two → IsFirstIdle P (environment_of regions) c
       → IsIdleFault version P regions (faults.Idle c)
 
--- the bytes begin with marks and regions, which these hold
+-- the bytes begin with flags and regions, which these hold
 pub record AreHeld (version : Version) (P Q : Tables) (bytes : List ℕ) (regions : List (Option Region)) (rest : List ℕ)
     : Type 0 where
   pub told : List (Option ImageRegion)
-  pub begins : Begins (AreMarks version P.family) bytes told rest
+  pub begins : Begins (AreFlags version P.family) bytes told rest
   pub holds : HoldsTold P Q told (environment_of regions)
 
 -- the bytes are the text of regions, which these hold

@@ -1,7 +1,7 @@
 use Rattle.std.proofs.lemmas.Result.{on_ok_weaker}
 use Rattle.region_shape.specs.Regions.{environment_of}
-use Rattle.image_parser.proofs.MarkReadsLemmas.{none_added, some_added}
-use Rattle.image_parser.proofs.marks.add_region.Goals as goal
+use Rattle.image_parser.proofs.FlagReadsLemmas.{none_added, some_added}
+use Rattle.image_parser.proofs.flags.add_region.Goals as goal
 
 pub returns-in-Some : goal.returns-in-Some
 returns-in-Some c strings lower told count holds here =
