@@ -3,3 +3,4 @@ pub mod Unwinding
 pub mod Locks
 pub mod Raising
 pub mod Triggers
+pub mod Moving

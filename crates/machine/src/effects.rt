@@ -4,11 +4,12 @@ ghost use Rattle.std.specs.Prelude.{◌≡◌, ◌∷◌, ◌++◌, [], ℕ, Lis
 ghost use Rattle.vm_state.specs.declared.frame.Frame.{Frame};
 ghost use Rattle.vm_state.specs.Output.{Print};
 ghost use Rattle.vm_state.specs.Shares.{shared_of, SharesTheSame};
+ghost use Rattle.vm_state.specs.Segments.{frames_of};
 ghost use Rattle.vm_state.specs.Stacks.{levels_of};
 ghost use Rattle.program.specs.Tables.{Tables};
-ghost use Rattle.semantics.specs.Moves.{advanced, received, unwound, with_operands, Throw};
+ghost use Rattle.semantics.specs.Moves.{advanced, moved, unwound, with_operands, Throw};
 ghost use Rattle.machine.specs.Linked.{program_of};
-ghost use Rattle.semantics.specs.Rows.{Moved, Next, Raise, Returns, Result as Led, run_row};
+ghost use Rattle.semantics.specs.Rows.{Move, Moved, Next, Raise, Result as Led, run_row};
 ghost use Rattle.semantics.specs.Steps.{maker_of};
 ghost use Rattle.vm_state.specs.SharedTables.{SharedTables};
 ghost use Rattle.vm_state.specs.SharedState.{SharedState};
@@ -23,19 +24,21 @@ ghost use Rattle.machine.specs.Effects.{HasPrinted, IsEmpty, IsStep, IsStopped, 
 
 use crate::execute::execute;
 use crate::kinds::{Actor, Conclusion, Effect, Stop};
+pub use crate::moving::receive;
+use crate::moving::{Left, conclude};
 use crate::unwinding::{Unwound, unwind};
 use built_in::class_id::ClassId;
 use frame_instructions::numeric::advance;
 use program::Program;
 use std::alloc::{AllocError, Global};
 use vm_state::ends::{End, FaultKind};
-use vm_state::frame::{Frame, FrameList, Segment};
+use vm_state::frame::Segment;
 use vm_state::initialization::Frames;
 use vm_state::output::Output;
 use vm_state::shared::Shared;
 use vm_state::spares::Spares;
 use vm_state::text::Text;
-use vm_state::value::{Fault, Maker, Name, Value};
+use vm_state::value::{Maker, Name};
 
 /// Who executes the instructions of a thread. Its objects are counted by the class of its highest initialization, or by
 /// the thread.
@@ -58,23 +61,6 @@ fn maker_of(frames: &Frames) -> Maker
     }
 }
 
-/// After a call, with the value returned on the operand stack.
-///
-/// # Errors
-/// `Fault`, and nothing changed, where that has no room.
-#[inline(always)]
-pub fn receive(frame: &mut Frame, value: Option<Value>) -> Result<(), Fault>
-    ensures ok { OnOk result (received value frame.old ≡ Some frame.new) }
-    ensures err { OnErr result (received value frame.old ≡ None) }
-    ensures same { OnErr result (frame.new ≡ frame.old) }
-{
-    if let Some(value) = value {
-        frame.cells.push(value)?;
-    }
-    advance(frame);
-    Ok(())
-}
-
 /// Ends a thread: nothing is left of its stack.
 fn halt(frames: &mut Frames, end: End) -> Effect
     ensures effect { result ≡ Effect.Halt end }
@@ -86,34 +72,28 @@ fn halt(frames: &mut Frames, end: End) -> Effect
     Effect::Halt(end)
 }
 
-/// Returns to the caller, where there is one above the highest initialization.
-fn return_to(frames: &mut Frames, callers: FrameList, value: Option<Value>) -> Effect
-    ensures step { (P : Tables) (f : Frame) (before after : SharedState)
-        → IsStep P frames.old.thread (f ∷ callers) (levels_of frames.old) before (Moved (Next (Returns value)) after)
-        result frames.new after }
+/// Puts frames back that were taken.
+fn stand(frames: &mut Frames, segment: Segment)
+    ensures { frames.new ≡ record frames.old { segment = Some segment } }
+{
+    frames.segment = Some(segment);
+}
+
+/// No frame is left above the highest initialization: it goes on, or the thread has returned.
+fn leave_last(frames: &mut Frames) -> Effect
+    ensures step { (P : Tables) (move : Move) (f : Frame) (fs : List Frame) (before after : SharedState)
+        → moved move f fs ≡ Some [] → IsStep P frames.old.thread (f ∷ fs) (levels_of frames.old) before
+        (Moved (Next move) after) result frames.new after }
     ensures moves { ((old new : Frames) → Stays result old new)
         × ((before after : SharedTables) → Stays result before after) }
     ensures silent { PrintsNothing result }
     ensures thread { frames.new.thread ≡ frames.old.thread }
 {
-    frames.segment = callers.into_segment();
-    match &mut frames.segment {
-        Some(segment) => match receive(&mut segment.innermost, value) {
-            Ok(()) => Effect::Next,
-            Err(Fault) => halt(frames, End::Faulted(FaultKind::Fault)),
-        },
-        None => match &frames.levels {
-            Some(_) => Effect::Next,
-            None => halt(frames, End::Returned),
-        },
+    if frames.levels.is_none() {
+        return halt(frames, End::Returned);
     }
-}
-
-/// Goes on in a frame, with its callers.
-fn stand(frames: &mut Frames, innermost: Frame, callers: FrameList)
-    ensures { frames.new ≡ record frames.old { segment = Some (record { innermost = innermost; callers = callers }) } }
-{
-    frames.segment = Some(Segment { innermost, callers });
+    frames.segment = None;
+    Effect::Next
 }
 
 /// An exception that no frame above the highest initialization catches: it becomes pending there, and where there is
@@ -135,26 +115,26 @@ fn leave_uncaught(frames: &mut Frames, exception: Name, class: ClassId) -> Effec
     Effect::Raise
 }
 
-/// Throws an exception of a class in a frame, of whose thread's stack it was taken with its callers.
+/// Throws an exception of a class in the innermost of some frames, which were taken of their thread's stack.
 fn throw(
     program: &Program,
     frames: &mut Frames,
-    frame: Frame,
-    callers: FrameList,
+    segment: Segment,
     exception: Name,
     class: ClassId,
 ) -> Effect
     ensures step { (before after : SharedState)
-        → IsStep program.now frames.old.thread (frame ∷ callers) (levels_of frames.old) before
+        → IsStep program.now frames.old.thread (frames_of segment) (levels_of frames.old) before
         (Moved (Raise exception class) after) result frames.new after }
     ensures moves { ((old new : Frames) → Stays result old new)
         × ((before after : SharedTables) → Stays result before after) }
     ensures silent { PrintsNothing result }
     ensures thread { frames.new.thread ≡ frames.old.thread }
 {
-    match unwind(program, frame, callers, exception, class) {
-        Unwound::Caught(frame, callers) => {
-            stand(frames, frame, callers);
+    let Segment { innermost, callers } = segment;
+    match unwind(program, innermost, callers, exception, class) {
+        Unwound::Caught(innermost, callers) => {
+            stand(frames, Segment { innermost, callers });
             Effect::Raise
         }
         Unwound::NoRoom => halt(frames, End::Faulted(FaultKind::Fault)),
@@ -162,128 +142,89 @@ fn throw(
     }
 }
 
-/// A call: the frame of the method called stands on its caller, which loses the arguments.
-///
-/// # Errors
-/// `AllocError` where memory is refused: then the stack is as it was.
-fn call(
-    frames: &mut Frames,
-    frame: Frame,
-    callers: FrameList,
-    callee: Frame,
-    arguments: usize,
-) -> Result<Effect, AllocError>
-    ensures ok { OnOk result
-        (frames.new ≡ record frames.old {
-          segment = Some (record {
-            innermost = callee;
-            callers = with_operands frame (dropped arguments frame.operands) ∷ callers;
-          });
-        }) }
-    ensures next { IfOk result (λ e. e ≡ Effect.Next) }
-    ensures err { OnErr result
-        (frames.new ≡ record frames.old { segment = Some (record { innermost = frame; callers = callers }) }) }
-{
-    let mut callers = callers;
-    match callers.push_caller(frame, arguments) {
-        Ok(()) => {
-            stand(frames, callee, callers);
-            Ok(Effect::Next)
-        }
-        Err(frame) => {
-            stand(frames, frame, callers);
-            Err(AllocError)
-        }
-    }
-}
-
-/// A print: the frame goes on at the next instruction without these operands, and the text comes behind what was
-/// printed before.
+/// A print: the innermost frame goes on at the next instruction without these operands, and the text comes behind what
+/// was printed before.
 ///
 /// # Errors
 /// `AllocError` where memory is refused: then the stack is as it was, and so is what was printed.
 fn print(
     frames: &mut Frames,
-    frame: Frame,
-    callers: FrameList,
+    segment: Segment,
     text: Text,
     operands: usize,
     printed: &mut Output,
 ) -> Result<Effect, AllocError>
     ensures ok { OnOk result
         (frames.new ≡ record frames.old {
-          segment = Some (record {
-            innermost = advanced (with_operands frame (dropped operands frame.operands));
-            callers = callers;
+          segment = Some (record segment {
+            innermost = advanced (with_operands segment.innermost (dropped operands segment.innermost.operands));
           });
         }) }
     ensures text { IfOk result (λ e. e ≡ Effect.Print text) }
     ensures printed { OnOk result
         (printed.new ≡ printed.old ++ record { thread = frames.old.thread; text = text } ∷ []) }
     ensures kept { OnErr result (printed.new ≡ printed.old) }
-    ensures err { OnErr result
-        (frames.new ≡ record frames.old { segment = Some (record { innermost = frame; callers = callers }) }) }
+    ensures err { OnErr result (frames.new ≡ record frames.old { segment = Some segment }) }
 {
-    let mut frame = frame;
+    let mut segment = segment;
     match printed.add(frames.thread, text.as_bytes()) {
         Ok(()) => {
-            frame.cells.drop_many(operands);
-            advance(&mut frame);
-            stand(frames, frame, callers);
+            segment.innermost.cells.drop_many(operands);
+            advance(&mut segment.innermost);
+            stand(frames, segment);
             Ok(Effect::Print(text))
         }
         Err(error) => {
-            stand(frames, frame, callers);
+            stand(frames, segment);
             Err(error)
         }
     }
 }
 
-/// What the conclusion of an instruction makes of its thread, of whose stack its frame and the callers were taken.
-/// What it prints comes behind what was printed before.
+/// What the conclusion of an instruction makes of its thread, of whose stack its frames were taken. What it prints
+/// comes behind what was printed before.
 ///
 /// # Errors
 /// `AllocError` where memory is refused to a call or a print: then the stack is as it was, and so is what was printed.
-fn conclude(
+fn go_on(
+    spares: &mut Spares,
     program: &Program,
     frames: &mut Frames,
-    frame: Frame,
-    callers: FrameList,
+    segment: Segment,
     conclusion: Conclusion,
     printed: &mut Output,
 ) -> Result<Effect, AllocError>
     ensures step { IfOk result
-        (λ e. (maker : Maker) (f : Frame) (before after : SharedState) → f.activity ≡ frame.activity
-        → Untouched (Ok conclusion) f frame →
-        IsStep program.now frames.old.thread (f ∷ callers) (levels_of frames.old) before
-        (run_row frames.old.thread maker after (concluded conclusion frame)) e frames.new after) }
+        (λ e. (maker : Maker) (f : Frame) (before after : SharedState) → f.activity ≡ segment.innermost.activity
+        → Untouched (Ok conclusion) f segment.innermost →
+        IsStep program.now frames.old.thread (f ∷ segment.callers) (levels_of frames.old) before
+        (run_row frames.old.thread maker after (concluded conclusion segment.innermost)) e frames.new after) }
     ensures moves { IfOk result (λ e. ((old new : Frames) → Stays e old new)
         × ((before after : SharedTables) → Stays e before after)) }
     ensures thread { frames.new.thread ≡ frames.old.thread }
-    ensures err { OnErr result (((f : Frame) → Untouched (Ok conclusion) f frame → frames.new
-        ≡ record frames.old { segment = Some (record { innermost = f; callers = callers }) })
+    ensures err { OnErr result (((f : Frame) → Untouched (Ok conclusion) f segment.innermost → frames.new
+        ≡ record frames.old { segment = Some (record segment { innermost = f }) })
         × ((old new : SharedTables) → KeptBy shared_of (Ok conclusion) old new → SharesTheSame old new)) }
     ensures printed { IfOk result (λ e. HasPrinted e frames.old.thread printed.old printed.new) }
     ensures kept { OnErr result (printed.new ≡ printed.old) }
 {
-    match conclusion {
-        Conclusion::Stays => {
-            stand(frames, frame, callers);
+    let mut segment = segment;
+    match conclude(spares, &mut segment, conclusion) {
+        Ok(Left::Stands) => {
+            stand(frames, segment);
             Ok(Effect::Next)
         }
-        Conclusion::Becomes(other) => {
-            stand(frames, other, callers);
-            Ok(Effect::Next)
+        Ok(Left::Nothing) => Ok(leave_last(frames)),
+        Ok(Left::NoRoom(_)) => Ok(halt(frames, End::Faulted(FaultKind::Fault))),
+        Ok(Left::Prints { text, operands }) => print(frames, segment, text, operands, printed),
+        Ok(Left::Raises(exception, class)) => {
+            Ok(throw(program, frames, segment, exception, class))
         }
-        Conclusion::Calls { callee, arguments } => call(frames, frame, callers, callee, arguments),
-        Conclusion::Prints { text, operands } => {
-            print(frames, frame, callers, text, operands, printed)
+        Ok(Left::Halts(kind)) => Ok(halt(frames, End::Faulted(kind))),
+        Err(error) => {
+            stand(frames, segment);
+            Err(error)
         }
-        Conclusion::Returns(value) => Ok(return_to(frames, callers, value)),
-        Conclusion::Raises(exception, class) => {
-            Ok(throw(program, frames, frame, callers, exception, class))
-        }
-        Conclusion::Halts(kind) => Ok(halt(frames, End::Faulted(kind))),
     }
 }
 
@@ -337,18 +278,15 @@ pub fn effect(
     ensures kept { OnErr result (printed.new ≡ printed.old) }
 {
     let by = actor_of(frames);
-    let Some(segment) = frames.segment.take() else {
+    let Some(mut segment) = frames.segment.take() else {
         unreachable!()
     };
-    let Segment {
-        innermost: mut frame,
-        callers,
-    } = segment;
     let mut spares = Spares::none(alloc);
-    match execute(alloc, &mut spares, program, by, &mut frame, shared) {
-        Ok(conclusion) => { conclude(program, frames, frame, callers, conclusion, printed) }
+    let frame = &mut segment.innermost;
+    match execute(alloc, &mut spares, program, by, frame, shared) {
+        Ok(conclusion) => go_on(&mut spares, program, frames, segment, conclusion, printed),
         Err(stop) => {
-            stand(frames, frame, callers);
+            stand(frames, segment);
             stopped(stop)
         }
     }

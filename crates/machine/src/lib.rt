@@ -21,6 +21,7 @@ pub mod kinds;
 pub mod laws;
 mod members;
 pub mod monitors;
+pub mod moving;
 mod object_execution;
 pub mod object_operation;
 pub mod objects;
