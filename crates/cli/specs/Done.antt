@@ -142,7 +142,7 @@ pub record IsReport (holds : Contents) (words : Building) (report : List ℕ) : 
   pub asked : IsAskedBuild holds words answer
   pub is : report ≡ report_text answer.image answer.verdicts
 
--- Such a report went out.
+-- The report on a build of the class files went out.
 pub record HasReported (holds : Contents) (words : Building) (before after : Option (List ℕ)) : Type 0 where
   pub report : List ℕ
   pub is : IsReport holds words report

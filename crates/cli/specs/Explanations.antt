@@ -45,7 +45,7 @@ pub record IsExplained (holds : Contents) (words : Explain) (text : List ℕ) : 
   pub asked : IsAskedBuild holds words.building answer
   pub told : IsExplanationBy answer (text_of words.building.run_time) words.building.budget words.class.now text
 
--- Such a text went out.
+-- The text of such an explanation went out.
 pub record HasExplained (holds : Contents) (words : Explain) (before after : Option (List ℕ)) : Type 0 where
   pub text : List ℕ
   pub is : IsExplained holds words text

@@ -110,7 +110,7 @@ fn image_world(
 pub(crate) struct ImageStart {
     pub program: Program,
     pub world: World,
-    /// The same world once more, where stacks are told after the run.
+    /// That world once more, where stacks are told after the run.
     pub again: Option<World>,
 }
 

@@ -107,7 +107,7 @@ pub fn world(alloc: Global, image: &Image, entries: &[ClassName]) -> Result<Worl
     Ok(World::start(alloc, shared, classes.as_slice())?)
 }
 
-/// The same start, with the image's program: the image is let go, and its regions are moved into the world.
+/// The start of an image, with its program: the image is let go, and its regions are moved into the world.
 ///
 /// # Errors
 /// Those of `world`.

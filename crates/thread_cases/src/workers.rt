@@ -1,4 +1,4 @@
-//! The same classes settled by workers and by none.
+//! Classes settled by workers, and by none, become the same.
 
 use crate::programs::program_of;
 use crate::settled::{BUDGET, value_of, verdicts_of, wave_of};
