@@ -85,7 +85,7 @@ impl<H: Watch> Watched<'_, H> {
 }
 
 impl<H: Watch + Sync> Gate for Watched<'_, H> {
-    fn ready(&self, _who: u32, _job: u32, _turn: u32) -> bool {
+    fn ready(&self, _who: u32, _job: u32, _earlier: u32) -> bool {
         true
     }
 

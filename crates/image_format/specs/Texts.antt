@@ -105,9 +105,9 @@ region_text version family region = u4 region.count
     ++ (number_text version (length region.objects) ++ flat_map (kept_text version family) region.objects))
 
 -- whether a class is initialized, and its region
-abbrev pub mark_text : Version → Family → Option ImageRegion → List ℕ
-mark_text version family None = u1 0
-mark_text version family (Some region) = u1 1 ++ region_text version family region
+abbrev pub flag_text : Version → Family → Option ImageRegion → List ℕ
+flag_text version family None = u1 0
+flag_text version family (Some region) = u1 1 ++ region_text version family region
 
 -- ---- the image
 
@@ -122,10 +122,10 @@ abbrev pub version_number : Version → ℕ
 version_number versions.One = 1
 version_number versions.Two = 2
 
--- all before the digest: `JPIM`, the version, the count of classes, the class files, and their marks and regions
+-- all before the digest: `JPIM`, the version, the count of classes, the class files, and their flags and regions
 abbrev pub body_text : Version → Family → List (Option ImageRegion) → List ℕ
 body_text version family regions = u4 1246775629 ++ (u2 (version_number version) ++ (u4 (length family)
-    ++ (flat_map given_text family ++ flat_map (mark_text version family) regions)))
+    ++ (flat_map given_text family ++ flat_map (flag_text version family) regions)))
 
 abbrev pub with_digest : List ℕ → List ℕ
 with_digest body = body ++ sha256 body

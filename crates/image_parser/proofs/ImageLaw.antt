@@ -26,7 +26,7 @@ use Rattle.image_format.specs.declared.version.Version.TheVariants as versions
 use Rattle.program.specs.Programs.{IsProgram, files_of as classes_of}
 use Rattle.image_format.specs.Images.{VersionText, ImageText, OldText}
 use Rattle.image_format.specs.Reached.{IsDropped}
-use Rattle.image_format.specs.Texts.{given_text, mark_text, version_number}
+use Rattle.image_format.specs.Texts.{given_text, flag_text, version_number}
 use Rattle.image_format.proofs.DroppedLemmas.{one_dropped}
 use Rattle.image_parser.specs.declared.fault.FilesFault.{FilesFault}
 use Rattle.image_parser.specs.declared.fault.RegionFault.{RegionFault}
@@ -145,7 +145,7 @@ module _ (parts : List ℕ) where
 -- ---- the parts of an image
 
 rest_of : Version → Family → Held → List ℕ
-rest_of version family held = flat_map (mark_text version family) held
+rest_of version family held = flat_map (flag_text version family) held
 
 module _ (version : Version) (parts : List ℕ) (family : Family) (held : Held)
     (text : PartsText version parts family held) where
@@ -170,7 +170,7 @@ module _ (version : Version) (parts : List ℕ) (family : Family) (held : Held)
           spelled = sym (family_text family);
         };
         spelled = text.spelled
-            ∙ ap (λ (n : ℕ). u4 n ++ (flat_map given_text family ++ flat_map (mark_text version family) held))
+            ∙ ap (λ (n : ℕ). u4 n ++ (flat_map given_text family ++ flat_map (flag_text version family) held))
             (sym count);
       }
 
@@ -255,7 +255,7 @@ module _ (version : Version) (parts : List ℕ) (fits : IsBytes parts) where
 
 parts_of : Version → Family → Held → List ℕ
 parts_of version family held =
-    u4 (length family) ++ (flat_map given_text family ++ flat_map (mark_text version family) held)
+    u4 (length family) ++ (flat_map given_text family ++ flat_map (flag_text version family) held)
 
 two_bytes : (version : Version) → length (u2 (version_number version)) ≡ 2
 two_bytes versions.One = refl
@@ -266,7 +266,7 @@ text_framed : (bytes : List ℕ) (version : Version) (family : Family) (held : H
 unfolding parts_of
 text_framed bytes version family held text =
     let number : List ℕ = u2 (version_number version) in
-    let rest : List ℕ = flat_map given_text family ++ flat_map (mark_text version family) held in
+    let rest : List ℕ = flat_map given_text family ++ flat_map (flag_text version family) held in
     let parts : List ℕ = u4 (length family) ++ rest in
     let body : List ℕ = u4 1246775629 ++ (number ++ parts) in
     let all : length bytes ≡ length body + length (sha256 body) = ap length text.spelled

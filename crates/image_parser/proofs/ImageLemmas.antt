@@ -39,7 +39,7 @@ use Rattle.image_parser.specs.FileFaults.{AreFiles, FilesFail}
 use Rattle.image_parser.specs.HeaderFaults.{IsFramed}
 use Rattle.image_parser.specs.ImageFaults.{of_files, of_link, of_regions, HasFiles, IsLinked, PartsText, PartsFail}
 use Rattle.image_parser.specs.reading.Frames.{FailsInEach}
-use Rattle.image_parser.specs.reading.Marked.{RegionsHeld}
+use Rattle.image_parser.specs.reading.Flagged.{RegionsHeld}
 use Rattle.image_parser.specs.Parsings.{IsOfFiles, told_in}
 use Rattle.image_parser.proofs.ToldLemmas.{regions_told}
 use Rattle.object_graph.proofs.ProgramsLemmas.{static_count}

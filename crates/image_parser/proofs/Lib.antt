@@ -16,9 +16,9 @@ pub mod ObjectLawful
 pub mod ChainLawful
 pub mod ChainLemmas
 pub mod RegionLawful
-pub mod MarkLemmas
-pub mod MarkReadsLemmas
-pub mod MarkLawful
+pub mod FlagLemmas
+pub mod FlagReadsLemmas
+pub mod FlagLawful
 pub mod NamesLemmas
 pub mod ClassesLemmas
 pub mod ToldLemmas

@@ -20,7 +20,7 @@ use Rattle.image_format.specs.Values.{ImageValue}
 use Rattle.image_format.specs.Told.{told_object, told_objects, told_region, told_regions, told_value}
 use Rattle.image_format.proofs.RowsLemmas.{all_told, kept_is, told_at}
 use Rattle.object_graph.proofs.ToldReachedLemmas.{told_of_class, told_some}
-use Rattle.image_parser.specs.Nameless.{MarkNames}
+use Rattle.image_parser.specs.Nameless.{FlagNames}
 use Rattle.image_parser.specs.reading.Named.{ClassNames, FieldsName, MayName, NamesThere, PoolNames}
 use Rattle.image_parser.specs.reading.Named.{SlotsName}
 
@@ -103,23 +103,23 @@ module _ (P : Tables) (regions : List (Option Held))
   -- ---- classes
 
   class_there : (c : ℕ) → ClassNames P regions c
-      → MarkNames told (option_map (told_region P c) (environment_of regions c))
+      → FlagNames told (option_map (told_region P c) (environment_of regions c))
   class_there c names = by (held_in regions c) names
     where
       by : (o : Option Held) → MayName regions o (length (statics_in P c))
-          → MarkNames told (option_map (told_region P c) (option_map region_of o))
+          → FlagNames told (option_map (told_region P c) (option_map region_of o))
       by None names = tt
       by (Some held) names = record {
         statics = fields_there (region_of held).fields (length (statics_in P c)) names.0;
         slots = pool_there (region_of held).pool names.1;
       }
 
-  class_again : (c : ℕ) → MarkNames told (option_map (told_region P c) (environment_of regions c))
+  class_again : (c : ℕ) → FlagNames told (option_map (told_region P c) (environment_of regions c))
       → ClassNames P regions c
   class_again c there = by (held_in regions c) refl there
     where
       by : (o : Option Held) → held_in regions c ≡ o
-          → MarkNames told (option_map (told_region P c) (option_map region_of o))
+          → FlagNames told (option_map (told_region P c) (option_map region_of o))
           → MayName regions o (length (statics_in P c))
       by None is there = tt
       by (Some held) is there = (
@@ -127,13 +127,13 @@ module _ (P : Tables) (regions : List (Option Held))
         pool_again (region_of held).pool (no_more c (region_of held) (ap (option_map region_of) is)) there.slots,
       )
 
-  -- the mark of a class
-  mark_is : (c : ℕ) → c < length P.family
+  -- the flag of a class
+  flag_is : (c : ℕ) → c < length P.family
       → region_in told c ≡ option_map (told_region P c) (environment_of regions c)
-  mark_is c low = told_of_class P (environment_of regions) no_more within c low
+  flag_is c low = told_of_class P (environment_of regions) no_more within c low
 
-  pub mark_there : (c : ℕ) → c < length P.family → ClassNames P regions c → MarkNames told (region_in told c)
-  mark_there c low names = subst (MarkNames told) (sym (mark_is c low)) (class_there c names)
+  pub flag_there : (c : ℕ) → c < length P.family → ClassNames P regions c → FlagNames told (region_in told c)
+  flag_there c low names = subst (FlagNames told) (sym (flag_is c low)) (class_there c names)
 
-  pub mark_again : (c : ℕ) → c < length P.family → MarkNames told (region_in told c) → ClassNames P regions c
-  mark_again c low there = class_again c (subst (MarkNames told) (mark_is c low) there)
+  pub flag_again : (c : ℕ) → c < length P.family → FlagNames told (region_in told c) → ClassNames P regions c
+  flag_again c low there = class_again c (subst (FlagNames told) (flag_is c low) there)

@@ -33,7 +33,8 @@ use Rattle.image_format.specs.Values.{ImageValue}
 use Rattle.image_format.proofs.DroppedLemmas.{found_all}
 use Rattle.image_parser.specs.declared.fault.RegionFault.{RegionFault}
 use Rattle.image_parser.specs.reading.Held.{AddsStrings, HoldsAt, HoldsClass, HoldsElement, HoldsFields, HoldsKept}
-use Rattle.image_parser.specs.reading.Held.{HoldsNumber, HoldsObject, HoldsObjects, HoldsRegion, HoldsRow, HoldsType}
+use Rattle.image_parser.specs.reading.Held.{HoldsNumber, HoldsObject, HoldsObjects, HoldsRegion, HoldsKeptAll}
+use Rattle.image_parser.specs.reading.Held.{HoldsType}
 use Rattle.image_parser.specs.reading.Held.{HoldsValues}
 use Rattle.image_parser.specs.reading.Objects.{array_at, class_at, class_for, counted_region_at, formed_at, kept_at}
 use Rattle.image_parser.specs.reading.Objects.{kept_of, known_slots_at, many_at, name_at, object_at, object_number_at}
@@ -150,7 +151,8 @@ ascends_up low least count [] rises le = omega (arith, rises, le)
 ascends_up low least count (o ∷ os) rises le = (rises.0, ascends_up (o.0 + 1) least count os rises.1 le)
 
 -- numbers that ascend in the row are those of what is told
-pub numbered_by : (S : Strings) (low count : ℕ) (told : List KeptObject) (row : List (ℕ × Object)) → HoldsRow S told row
+pub numbered_by : (S : Strings) (low count : ℕ) (told : List KeptObject) (row : List (ℕ × Object)) → HoldsKeptAll S
+    told row
     → AscendsFrom low row count → AreNumbered versions.Two count low told
 numbered_by S low count [] [] holds rises = tt
 numbered_by S low count [] (o ∷ os) holds rises = tt
@@ -170,7 +172,7 @@ numbered_by S low count (t ∷ ts) (o ∷ os) holds rises =
 -- a row of what is told, from objects by their numbers
 row_of : (S : Strings) (told : List KeptObject) (all : List KeptObject) (pool : Pool)
     → All (λ (kept : KeptObject). object_with all kept.number ≡ Some kept.object) told → HoldsAt S all pool
-    → (row : List (ℕ × Object)) × HoldsRow S told row
+    → (row : List (ℕ × Object)) × HoldsKeptAll S told row
 row_of S [] all pool found holds = ([], tt)
 row_of S (t ∷ ts) all pool found holds =
     let F : KeptObject → Type 0 = λ kept. object_with all kept.number ≡ Some kept.object in
@@ -186,7 +188,7 @@ row_of S (t ∷ ts) all pool found holds =
 pub objects_held : (P Q : Tables) (version : Version) (count many : ℕ) (bytes middle rest : List ℕ)
     (objects : List (ℕ × Object)) (row : HeldObjects) → many_at version count bytes ≡ Ok (many, middle)
     → AscendsFrom 0 objects count → row ≡ record { count = count; objects = objects }
-    → IsHeld HoldsRow P Q objects (λ told. (told, rest)) (so_many_at version P.family count many middle)
+    → IsHeld HoldsKeptAll P Q objects (λ told. (told, rest)) (so_many_at version P.family count many middle)
     → IsHeld (λ (S : Strings). HoldsObjects S count) P Q (pool_by row) (λ told. (told, rest))
     (objects_at version P.family count bytes)
 unfolding objects_at

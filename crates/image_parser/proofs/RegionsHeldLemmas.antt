@@ -1,4 +1,4 @@
--- Regions that hold what marks tell: what is wrong with them is what is wrong with what is told.
+-- Regions that hold what flags tell: what is wrong with them is what is wrong with what is told.
 use Rattle.std.proofs.Common.{◌≡◌, ◌∙◌, ◌⊎◌, inl, inr, ℕ, zero, suc, ◌<◌, ◌≤◌, List, [], ◌∷◌, length, get_or, take}
 use Rattle.std.proofs.Common.{Option, Some, None, slice_get, Result, Ok, Err, IfOk, IfErr, refl, sym, ap, subst, arith}
 use Rattle.std.specs.List.{All}
@@ -25,34 +25,34 @@ use Rattle.image_format.specs.Regions.{ImageRegion}
 use Rattle.image_format.specs.Shapes.{HasShape}
 use Rattle.image_format.specs.Told.{told_regions}
 use Rattle.object_graph.proofs.ToldReachedLemmas.{class_again, class_told}
-use Rattle.image_parser.specs.declared.fault.MarksFault.{MarksFault}
+use Rattle.image_parser.specs.declared.fault.FlagsFault.{FlagsFault}
 use Rattle.image_parser.specs.declared.fault.RegionsFault.{RegionsFault}
 use Rattle.image_parser.specs.declared.fault.RegionsFault.TheVariants as faults
 use Rattle.image_parser.specs.AllRegions.{RegionsFail}
 use Rattle.image_parser.specs.AllRegions.RegionsFail.{idle}
 use Rattle.image_parser.specs.Idle.{IsIdle}
-use Rattle.image_parser.specs.MarkFaults.{AreMarks, IsMarksFault, MarksFail}
-use Rattle.image_parser.specs.Nameless.{IsNameless, MarkNames}
+use Rattle.image_parser.specs.FlagFaults.{AreFlags, IsFlagsFault, FlagsFail}
+use Rattle.image_parser.specs.Nameless.{IsNameless, FlagNames}
 use Rattle.image_parser.specs.reading.Held.{HoldsRegions}
-use Rattle.image_parser.specs.reading.Marked.{AreHeld, IsIdleFault, NeedsReached, RegionsHeld}
-use Rattle.image_parser.specs.reading.Marked.IsIdleFault.{idle as first_idle}
-use Rattle.image_parser.specs.reading.Marks.{marks_at}
+use Rattle.image_parser.specs.reading.Flagged.{AreHeld, IsIdleFault, NeedsReached, RegionsHeld}
+use Rattle.image_parser.specs.reading.Flagged.IsIdleFault.{idle as first_idle}
+use Rattle.image_parser.specs.reading.Flags.{flags_at}
 use Rattle.image_parser.specs.reading.Named.{AllBelow, ClassNames, IsFirstNameless}
 use Rattle.image_parser.specs.reading.Reads.{IsHeld, ReadsIn}
-use Rattle.image_parser.proofs.AllRegionsLemmas.{few_regions, filled, marks_shape, whole_regions}
-use Rattle.image_parser.proofs.MarkLawful.{marks_lawful, marks_refused}
-use Rattle.image_parser.proofs.NamedLemmas.{mark_again, mark_there}
+use Rattle.image_parser.proofs.AllRegionsLemmas.{few_regions, filled, flags_shape, whole_regions}
+use Rattle.image_parser.proofs.FlagLawful.{flags_lawful, flags_refused}
+use Rattle.image_parser.proofs.NamedLemmas.{flag_again, flag_there}
 use Rattle.image_parser.proofs.ToldLemmas.{IsTold, regions_told, told_of}
 use Rattle.image_parser.proofs.WholeLemmas.{region_shaped}
 
--- ---- what reading the marks answers
+-- ---- what reading the flags answers
 
 module _ (version : Version) (P Q : Tables) (family : IsFamily P.family) (bytes : List ℕ) (fits : IsBytes bytes) where
-  marks_held : (regions : List (Option Held)) (rest : List ℕ)
-      → IsHeld HoldsRegions P Q (environment_of regions) (λ told. (told, rest)) (marks_at version P.family bytes)
+  flags_held : (regions : List (Option Held)) (rest : List ℕ)
+      → IsHeld HoldsRegions P Q (environment_of regions) (λ told. (told, rest)) (flags_at version P.family bytes)
       → AreHeld version P Q bytes regions rest
-  marks_held regions rest h =
-      let t = (marks_lawful version P.family family).takes bytes h.told rest fits h.is in
+  flags_held regions rest h =
+      let t = (flags_lawful version P.family family).takes bytes h.told rest fits h.is in
       record {
         told = h.told;
         begins = record { text = t.text; spelled = t.spelled; parts = t.parts };
@@ -60,26 +60,26 @@ module _ (version : Version) (P Q : Tables) (family : IsFamily P.family) (bytes 
       }
 
   module _ {Y : Type 0} (view : Y → List (Option Held) × List ℕ) where
-    pub marks_answered : (result : Result Y MarksFault)
+    pub flags_answered : (result : Result Y FlagsFault)
         → ReadsIn HoldsRegions (λ y. (environment_of (view y).0, (view y).1)) P Q result
-        (marks_at version P.family bytes)
+        (flags_at version P.family bytes)
         → IfOk result (λ y. AreHeld version P Q bytes (view y).0 (view y).1)
-    marks_answered (Ok y) h = marks_held (view y).0 (view y).1 h
-    marks_answered (Err f) h = tt
+    flags_answered (Ok y) h = flags_held (view y).0 (view y).1 h
+    flags_answered (Err f) h = tt
 
-    pub marks_fail : (result : Result Y MarksFault)
+    pub flags_fail : (result : Result Y FlagsFault)
         → ReadsIn HoldsRegions (λ y. (environment_of (view y).0, (view y).1)) P Q result
-        (marks_at version P.family bytes)
-        → IfErr result (λ f. IsMarksFault (MarksFail version P.family bytes) f)
-    marks_fail (Ok y) h = tt
-    marks_fail (Err f) h = marks_refused version P.family family f bytes fits h.0
+        (flags_at version P.family bytes)
+        → IfErr result (λ f. IsFlagsFault (FlagsFail version P.family bytes) f)
+    flags_fail (Ok y) h = tt
+    flags_fail (Err f) h = flags_refused version P.family family f bytes fits h.0
 
-    pub marks_family : (result : Result Y MarksFault)
+    pub flags_family : (result : Result Y FlagsFault)
         → ReadsIn HoldsRegions (λ y. (environment_of (view y).0, (view y).1)) P Q result
-        (marks_at version P.family bytes)
+        (flags_at version P.family bytes)
         → Q.family ≡ P.family
-    marks_family (Ok y) h = h.adds.family
-    marks_family (Err f) h = h.1
+    flags_family (Ok y) h = h.adds.family
+    flags_family (Err f) h = h.1
 
 -- ---- what is told of the regions
 
@@ -96,19 +96,19 @@ module _ (version : Version) (P Q : Tables) (is : IsProgram Q) (bytes rest : Lis
   family : Q.family ≡ P.family
   family = held.holds.adds.family
 
-  marks : AreMarks version P.family held.told held.begins.text
-  marks = held.begins.spelled
+  flags : AreFlags version P.family held.told held.begins.text
+  flags = held.begins.spelled
 
   abbrev env : Environment
   env = environment_of regions
 
   many : length held.told ≡ length Q.family
-  many = few_regions version P.family held.begins.text held.told marks ∙ ap length (sym family)
+  many = few_regions version P.family held.begins.text held.told flags ∙ ap length (sym family)
 
   shapes : (c : ℕ) (t : ImageRegion) → slice_get held.told c ≡ Some (Some t) → HasShape version Q.family c t
   shapes c t at =
       subst (λ (f : Family). HasShape version f c t) (sym family)
-      (marks_shape version P.family held.begins.text held.told marks c t at)
+      (flags_shape version P.family held.begins.text held.told flags c t at)
 
   pub told_is : told_regions Q env ≡ held.told
   told_is = regions_told version Q (static_count Q is) held.told env many shapes held.holds.holds
@@ -128,32 +128,32 @@ module _ (version : Version) (P Q : Tables) (is : IsProgram Q) (bytes rest : Lis
 
   -- ---- names
 
-  names_told : (c : ℕ) (mark : Option ImageRegion) → c < length Q.family → slice_get held.told c ≡ Some mark
-      → ClassNames Q regions c → MarkNames held.told mark
-  names_told c mark low at names =
-      let here : region_in held.told c ≡ mark = get_or_from_slice_get held.told c mark None at in
-      subst (MarkNames held.told) here
-      (subst (λ (told : List (Option ImageRegion)). MarkNames told (region_in told c)) told_is
-      (mark_there Q regions no_more within c low names))
+  names_told : (c : ℕ) (flag : Option ImageRegion) → c < length Q.family → slice_get held.told c ≡ Some flag
+      → ClassNames Q regions c → FlagNames held.told flag
+  names_told c flag low at names =
+      let here : region_in held.told c ≡ flag = get_or_from_slice_get held.told c flag None at in
+      subst (FlagNames held.told) here
+      (subst (λ (told : List (Option ImageRegion)). FlagNames told (region_in told c)) told_is
+      (flag_there Q regions no_more within c low names))
 
-  names_again : (c : ℕ) → c < length Q.family → MarkNames held.told (region_in held.told c) → ClassNames Q regions c
+  names_again : (c : ℕ) → c < length Q.family → FlagNames held.told (region_in held.told c) → ClassNames Q regions c
   names_again c low there =
-      mark_again Q regions no_more within c low
-      (subst (λ (told : List (Option ImageRegion)). MarkNames told (region_in told c)) (sym told_is) there)
+      flag_again Q regions no_more within c low
+      (subst (λ (told : List (Option ImageRegion)). FlagNames told (region_in told c)) (sym told_is) there)
 
   pub nameless_told : (c : ℕ) → IsFirstNameless Q regions c → IsNameless held.told c
   nameless_told c first =
       let low : c < length Q.family = (let class = first.class in omega (arith, class, class_count Q is)) in
       record {
-        mark = region_in held.told c;
+        flag = region_in held.told c;
         is = slice_get-get_or held.told c None (omega (arith, low, many));
         names = λ there. first.names (names_again c low there);
         least =
-            all_take (MarkNames held.told) held.told c
-            (λ i mark less at. names_told i mark (omega (arith, less, low)) at (first.least i less));
+            all_take (FlagNames held.told) held.told c
+            (λ i flag less at. names_told i flag (omega (arith, less, low)) at (first.least i less));
       }
 
-  all_named : AllBelow (ClassNames Q regions) (length Q.classes) → All (MarkNames held.told) held.told
+  all_named : AllBelow (ClassNames Q regions) (length Q.classes) → All (FlagNames held.told) held.told
   all_named names i d low =
       names_told i (get_or held.told i d) (omega (arith, low, many)) (slice_get-get_or held.told i d low)
       (names i (omega (arith, low, many, class_count Q is)))

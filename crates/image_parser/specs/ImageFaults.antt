@@ -12,7 +12,7 @@ use Rattle.image_format.specs.Regions.{ImageRegion}
 use Rattle.image_format.specs.declared.version.Version.{Version}
 use Rattle.program.specs.Programs.{files_of}
 use Rattle.image_format.specs.Images.{AreRegions, AreClassFiles, AreShort, SomeText}
-use Rattle.image_format.specs.Texts.{given_text, mark_text}
+use Rattle.image_format.specs.Texts.{given_text, flag_text}
 use Rattle.image_parser.specs.declared.fault.FilesFault.{FilesFault}
 use Rattle.image_parser.specs.declared.fault.FilesFault.TheVariants as file_faults
 use Rattle.image_parser.specs.declared.fault.RegionsFault.{RegionsFault}
@@ -81,7 +81,7 @@ pub record PartsText (version : Version) (parts : List ℕ) (family : Family) (a
   pub short : AreShort family
   pub fits : AreRegions version family all
   pub spelled : parts
-      ≡ u4 (length family) ++ (flat_map given_text family ++ flat_map (mark_text version family) all)
+      ≡ u4 (length family) ++ (flat_map given_text family ++ flat_map (flag_text version family) all)
 
 -- the first of the class files that fails, then the program that they do not make, then what stands after them
 pub data PartsFail (version : Version) (parts : List ℕ) : ImageFault → Type 0 where

@@ -2,17 +2,17 @@
 use Rattle.std.specs.Prelude.{ℕ}
 use Rattle.image_parser.specs.declared.fault.RegionFault.{RegionFault}
 use Rattle.image_parser.specs.declared.fault.RegionFault.TheVariants as faults
-use Rattle.image_parser.specs.declared.fault.MarksFault.{MarksFault}
-use Rattle.image_parser.specs.declared.fault.MarksFault.TheVariants as marks
+use Rattle.image_parser.specs.declared.fault.FlagsFault.{FlagsFault}
+use Rattle.image_parser.specs.declared.fault.FlagsFault.TheVariants as flags
 use Rattle.image_parser.specs.declared.fault.RegionsFault.{RegionsFault}
 use Rattle.image_parser.specs.declared.fault.RegionsFault.TheVariants as regions
 
-abbrev pub inside : ℕ → RegionFault → MarksFault
-inside c faults.Memory = marks.Memory
-inside c faults.Truncated = marks.Truncated
-inside c faults.Shape = marks.Shape c
+abbrev pub inside : ℕ → RegionFault → FlagsFault
+inside c faults.Memory = flags.Memory
+inside c faults.Truncated = flags.Truncated
+inside c faults.Shape = flags.Shape c
 
-abbrev pub among_regions : MarksFault → RegionsFault
-among_regions marks.Memory = regions.Memory
-among_regions marks.Truncated = regions.Truncated
-among_regions (marks.Shape c) = regions.Shape c
+abbrev pub among_regions : FlagsFault → RegionsFault
+among_regions flags.Memory = regions.Memory
+among_regions flags.Truncated = regions.Truncated
+among_regions (flags.Shape c) = regions.Shape c

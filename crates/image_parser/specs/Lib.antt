@@ -10,6 +10,6 @@ pub mod AllRegions
 pub mod TextOrFault
 pub mod FileFaults
 pub mod ImageFaults
-pub mod MarkFaults
+pub mod FlagFaults
 pub mod reading
 pub mod Parsings

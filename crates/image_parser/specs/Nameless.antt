@@ -8,13 +8,13 @@ abbrev pub SlotsAreThere : List (Option ImageRegion) → KeptObject → Type 0
 SlotsAreThere regions kept = All (IsThere regions) kept.object.slots
 
 -- a class that is not initialized names nothing
-abbrev pub MarkNames : List (Option ImageRegion) → Option ImageRegion → Type 0
-MarkNames regions None = Unit {0}
-MarkNames regions (Some region) = NamesObjects regions region
+abbrev pub FlagNames : List (Option ImageRegion) → Option ImageRegion → Type 0
+FlagNames regions None = Unit {0}
+FlagNames regions (Some region) = NamesObjects regions region
 
 -- the least class whose region names one
 pub record IsNameless (regions : List (Option ImageRegion)) (c : ℕ) : Type 0 where
-  pub mark : Option ImageRegion
-  pub is : slice_get regions c ≡ Some mark
-  pub names : ¬ MarkNames regions mark
-  pub least : All (MarkNames regions) (take c regions)
+  pub flag : Option ImageRegion
+  pub is : slice_get regions c ≡ Some flag
+  pub names : ¬ FlagNames regions flag
+  pub least : All (FlagNames regions) (take c regions)

@@ -13,7 +13,7 @@ use Rattle.image_parser.specs.declared.image.Parsed.{Parsed}
 use Rattle.image_parser.specs.declared.image_fault.ImageFault.{ImageFault}
 use Rattle.image_parser.specs.declared.image_fault.ImageFault.TheVariants.{Memory}
 use Rattle.image_parser.specs.ImageFaults.{Answers, ImageFails}
-use Rattle.image_parser.specs.reading.Marked.{HoldsTold}
+use Rattle.image_parser.specs.reading.Flagged.{HoldsTold}
 
 -- what is told of the regions
 abbrev pub told_in : Parsed → List (Option ImageRegion)

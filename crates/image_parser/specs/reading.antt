@@ -2,11 +2,11 @@ pub mod Results
 pub mod Held
 pub mod Reads
 pub mod Named
-pub mod Marked
+pub mod Flagged
 pub mod Values
 pub mod ClassNames
 pub mod Unknown
 pub mod Objects
-pub mod Marks
+pub mod Flags
 pub mod Files
 pub mod Frames

@@ -2,7 +2,7 @@
 
 ghost use Rattle.std.specs.Prelude.{◌≡◌};
 ghost use Rattle.image_parser.specs.declared.fault.RegionFault.TheVariants.{Memory};
-ghost use Rattle.image_parser.specs.declared.fault.MarksFault.TheVariants as marks;
+ghost use Rattle.image_parser.specs.declared.fault.FlagsFault.TheVariants as flags;
 ghost use Rattle.image_parser.specs.declared.fault.FilesFault.TheVariants as files;
 ghost use Rattle.image_parser.specs.declared.fault.RegionsFault.TheVariants as regions;
 ghost use Rattle.image_parser.specs.FileFaults.{of_class};
@@ -22,13 +22,13 @@ pub(crate) enum RegionFault {
     Shape,
 }
 
-/// What is wrong with the marks and regions of an image, or that memory ran out.
+/// What is wrong with the flags and regions of an image, or that memory ran out.
 #[derive(Clone, Copy, Debug)]
-pub(crate) enum MarksFault {
+pub(crate) enum FlagsFault {
     Memory,
     /// The bytes end too early.
     Truncated,
-    /// The mark of this class is none, or its region is none that it can have.
+    /// The flag of this class is none, or its region is none that it can have.
     Shape { class: u32 },
 }
 
@@ -78,15 +78,15 @@ impl<T: Drop> From<AllocFailed<T>> for FilesFault {
     }
 }
 
-impl MarksFault {
+impl FlagsFault {
     /// The fault that it is of all that stands after the class files.
     pub(crate) fn among_regions(self) -> RegionsFault
         ensures { result ≡ among_regions self }
     {
         match self {
-            MarksFault::Memory => RegionsFault::Memory,
-            MarksFault::Truncated => RegionsFault::Truncated,
-            MarksFault::Shape { class } => RegionsFault::Shape { class },
+            FlagsFault::Memory => RegionsFault::Memory,
+            FlagsFault::Truncated => RegionsFault::Truncated,
+            FlagsFault::Shape { class } => RegionsFault::Shape { class },
         }
     }
 }
@@ -103,23 +103,23 @@ impl RegionFault {
         }
     }
 
-    /// The fault that it is of the mark and the region of a class.
-    pub(crate) fn inside(self, class: u32) -> MarksFault
+    /// The fault that it is of the flag and the region of a class.
+    pub(crate) fn inside(self, class: u32) -> FlagsFault
         ensures { result ≡ inside class self }
     {
         match self {
-            RegionFault::Memory => MarksFault::Memory,
-            RegionFault::Truncated => MarksFault::Truncated,
-            RegionFault::Shape => MarksFault::Shape { class },
+            RegionFault::Memory => FlagsFault::Memory,
+            RegionFault::Truncated => FlagsFault::Truncated,
+            RegionFault::Shape => FlagsFault::Shape { class },
         }
     }
 }
 
-impl From<AllocError> for MarksFault {
-    ghost from_gives = { λ _ e. e ≡ marks.Memory };
+impl From<AllocError> for FlagsFault {
+    ghost from_gives = { λ _ e. e ≡ flags.Memory };
 
-    fn from(_error: AllocError) -> MarksFault {
-        MarksFault::Memory
+    fn from(_error: AllocError) -> FlagsFault {
+        FlagsFault::Memory
     }
 }
 

@@ -41,7 +41,7 @@ pub enum ImageFault {
     /// The name of a class does not come after that of the class before.
     #[error("Order")]
     Order,
-    /// The mark of this class is none, or its region is none that it can have.
+    /// The flag of this class is none, or its region is none that it can have.
     #[error("Shape {name}")]
     Shape { name: ClassName },
     /// The region of this class, and of no lower one, names an object that there is not.
@@ -108,7 +108,7 @@ impl ImageFault {
         }
     }
 
-    /// The fault of an image that one of its marks and regions is. `Memory` where there is none for a class's name.
+    /// The fault of an image that one of its flags and regions is. `Memory` where there is none for a class's name.
     pub(crate) fn of_regions(alloc: Global, family: &Family, fault: RegionsFault) -> ImageFault
         ensures { (result ≡ Memory) ⊎ (result ≡ of_regions family.now fault) }
     {

@@ -8,7 +8,7 @@ ghost use Rattle.region_shape.specs.Regions.{region_of};
 ghost use Rattle.image_format.specs.declared.version.Version.TheVariants.{Two};
 ghost use Rattle.image_format.specs.Shapes.{IsNumber, AreSoMany};
 ghost use Rattle.image_parser.specs.RegionFaults.{above};
-ghost use Rattle.image_parser.specs.reading.Held.{HoldsFields, HoldsKept, HoldsObjects, HoldsRegion, HoldsRow};
+ghost use Rattle.image_parser.specs.reading.Held.{HoldsFields, HoldsKept, HoldsObjects, HoldsRegion, HoldsKeptAll};
 ghost use Rattle.image_parser.specs.reading.Objects.{counted_region_at, kept_at, many_at, object_number_at};
 ghost use Rattle.image_parser.specs.reading.Objects.{objects_at, region_at, so_many_at};
 ghost use Rattle.image_parser.specs.reading.Reads.{Reads};
@@ -91,7 +91,7 @@ fn push_objects_at<'a>(
 ) -> Result<&'a [u8], RegionFault>
     requires many { AreSoMany version count many }
     requires none { objects.old.items ≡ [] }
-    ensures value { Reads HoldsRow (λ rest. (objects.new.items, rest.now)) program.old program.new result
+    ensures value { Reads HoldsKeptAll (λ rest. (objects.new.items, rest.now)) program.old program.new result
         (chain_at (kept_at version program.old.family count) above many 0 [] bytes.now) }
     ensures ascending { OnOk result (AscendsFrom 0 objects.new.items count) }
 {
@@ -128,7 +128,7 @@ fn so_many_at<'a>(
     bytes: &'a [u8],
 ) -> Result<(Vec<(u64, Object)>, &'a [u8]), RegionFault>
     requires { AreSoMany version count many }
-    ensures value { Reads HoldsRow (λ x. (x.0.items, x.1.now)) program.old program.new result
+    ensures value { Reads HoldsKeptAll (λ x. (x.0.items, x.1.now)) program.old program.new result
         (so_many_at version program.old.family count many bytes.now) }
     ensures ascending { IfOk result (λ x. AscendsFrom 0 x.0.items count) }
 {
@@ -151,8 +151,8 @@ fn objects_at<'a>(
 {
     let (many, rest) = many_at(version, count, bytes)?;
     let (objects, rest) = so_many_at(alloc, version, program, count, many, rest)?;
-    let row = Pool::of_objects(alloc, u64::from(count), objects)?;
-    Ok((row, rest))
+    let pool = Pool::of_objects(alloc, u64::from(count), objects)?;
+    Ok((pool, rest))
 }
 
 /// Static fields with these values. No class has so many that 32 bits do not count them.

@@ -3,11 +3,11 @@
 
 mod fault;
 mod files;
+mod flags;
 mod header;
 mod image;
 mod image_fault;
 mod kept_objects;
-mod marks;
 mod names;
 mod numbers;
 mod objects;

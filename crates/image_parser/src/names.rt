@@ -67,22 +67,22 @@ fn slots_name(regions: &Regions, slots: &Slots) -> bool
     values_name(regions, slots)
 }
 
-/// Whether those are that the object at a place of a row names.
-fn kept_names(regions: &Regions, row: &Pool, place: usize) -> bool
-    ensures { Decides result (KeptNames regions.now row.now place) }
+/// Whether those are that the object at a place of a pool names.
+fn kept_names(regions: &Regions, pool: &Pool, place: usize) -> bool
+    ensures { Decides result (KeptNames regions.now pool.now place) }
 {
-    match row.at(place) {
+    match pool.at(place) {
         Some((_, kept)) => slots_name(regions, &kept.slots),
         None => true,
     }
 }
 
-/// Whether those are that the objects of a row name.
-fn pool_names(regions: &Regions, row: &Pool) -> bool
-    ensures { Decides result (PoolNames regions.now (pool_by row.now)) }
+/// Whether those are that the objects of a pool name.
+fn pool_names(regions: &Regions, pool: &Pool) -> bool
+    ensures { Decides result (PoolNames regions.now (pool_by pool.now)) }
 {
-    for place in 0..row.len() {
-        if !kept_names(regions, row, place) {
+    for place in 0..pool.len() {
+        if !kept_names(regions, pool, place) {
             return false;
         }
     }

@@ -6,10 +6,10 @@ ghost use Rattle.program.specs.Tables.{Tables};
 ghost use Rattle.image_format.specs.declared.version.Version.TheVariants.{Two};
 ghost use Rattle.image_parser.specs.declared.fault.RegionsFault.TheVariants.{Memory};
 ghost use Rattle.image_parser.specs.AllRegions.{RegionsFail};
-ghost use Rattle.image_parser.specs.reading.Marked.{AreHeld, IsIdleFault, NeedsReached, RegionsHeld};
+ghost use Rattle.image_parser.specs.reading.Flagged.{AreHeld, IsIdleFault, NeedsReached, RegionsHeld};
 
 use crate::fault::RegionsFault;
-use crate::marks::read_marks;
+use crate::flags::read_flags;
 use crate::names::nameless;
 use image_format::version::Version;
 use object_graph::first_idle;
@@ -17,7 +17,7 @@ use program::Program;
 use region_shape::regions::Regions;
 use std::alloc::Global;
 
-/// Reads the marks and regions of all classes of a program, which fill the bytes. The program gets the strings that
+/// Reads the flags and regions of all classes of a program, which fill the bytes. The program gets the strings that
 /// they hold.
 ///
 /// # Errors
@@ -35,7 +35,7 @@ pub(crate) fn read_regions(
     ensures fault { IfErr result (λ x. (x ≡ Memory) ⊎ RegionsFail version program.old.family bytes.now x) }
     ensures family { program.new.family ≡ program.old.family }
 {
-    match read_marks(alloc, version, program, bytes) {
+    match read_flags(alloc, version, program, bytes) {
         Ok((regions, rest)) => whole(alloc, version, program, regions, bytes, rest),
         Err(fault) => Err(fault.among_regions()),
     }

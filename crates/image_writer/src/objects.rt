@@ -7,7 +7,7 @@ ghost use Rattle.region_shape.specs.Regions.{region_of, environment_of};
 ghost use Rattle.loading.specs.ClassIds.{object_type};
 ghost use Rattle.image_format.specs.declared.version.Version.TheVariants.{Two};
 ghost use Rattle.image_format.specs.Names.{name_of_class};
-ghost use Rattle.image_format.specs.Texts.{instance_text, array_text, object_text, kept_text, region_text, mark_text};
+ghost use Rattle.image_format.specs.Texts.{instance_text, array_text, object_text, kept_text, region_text, flag_text};
 ghost use Rattle.image_format.specs.Told.{told_value, told_array, told_class, told_object, told_kept};
 ghost use Rattle.image_format.specs.Told.{told_region, told_regions};
 ghost use Rattle.image_writer.specs.steps.Sizes.{HasFiles, IsSizedValue, IsSizedObject, IsSizedRegion, object_by};
@@ -194,10 +194,10 @@ fn push_region(
     push_objects(alloc, out, program, objects)
 }
 
-/// The mark of a class: 1 and its region where it is initialized, and else 0.
-fn push_mark(alloc: Global, out: &mut Vec<u8>, image: &Image, class: u32) -> Result<(), AllocError>
+/// The flag of a class: 1 and its region where it is initialized, and else 0.
+fn push_flag(alloc: Global, out: &mut Vec<u8>, image: &Image, class: u32) -> Result<(), AllocError>
     requires { HasFiles image.now.program }
-    ensures { OnOk result (out.new.items ≡ out.old.items ++ mark_text Two image.now.program.family
+    ensures { OnOk result (out.new.items ≡ out.old.items ++ flag_text Two image.now.program.family
         (option_map (told_region image.now.program class) (environment_of image.now.regions class))) }
 {
     match image.region(class) {
@@ -209,8 +209,8 @@ fn push_mark(alloc: Global, out: &mut Vec<u8>, image: &Image, class: u32) -> Res
     }
 }
 
-/// The marks and regions of the classes below a number.
-fn push_marks_below(
+/// The flags and regions of the classes below a number.
+fn push_flags_below(
     alloc: Global,
     out: &mut Vec<u8>,
     image: &Image,
@@ -218,21 +218,21 @@ fn push_marks_below(
 ) -> Result<(), AllocError>
     requires files { HasFiles image.now.program }
     requires count { count ≡ length image.now.program.family }
-    ensures { OnOk result (out.new.items ≡ out.old.items ++ flat_map (mark_text Two image.now.program.family)
+    ensures { OnOk result (out.new.items ≡ out.old.items ++ flat_map (flag_text Two image.now.program.family)
         (told_regions image.now.program (environment_of image.now.regions))) }
 {
     for class in 0..count {
-        push_mark(alloc, out, image, class)?;
+        push_flag(alloc, out, image, class)?;
     }
     Ok(())
 }
 
-/// The marks and regions of all classes.
-pub(crate) fn push_marks(alloc: Global, out: &mut Vec<u8>, image: &Image) -> Result<(), AllocError>
-    ensures { OnOk result (out.new.items ≡ out.old.items ++ flat_map (mark_text Two image.now.program.family)
+/// The flags and regions of all classes.
+pub(crate) fn push_flags(alloc: Global, out: &mut Vec<u8>, image: &Image) -> Result<(), AllocError>
+    ensures { OnOk result (out.new.items ≡ out.old.items ++ flat_map (flag_text Two image.now.program.family)
         (told_regions image.now.program (environment_of image.now.regions))) }
 {
     show_files(image.program());
     let classes = image.program().family().classes();
-    push_marks_below(alloc, out, image, classes.len() as u32)
+    push_flags_below(alloc, out, image, classes.len() as u32)
 }

@@ -15,14 +15,14 @@ ghost use Rattle.image_writer.specs.ImageTexts.{text_of, told_of};
 use crate::files::show_files;
 use crate::fitting::show_classes_fit;
 use crate::numbers::{push_u16, push_u32};
-use crate::objects::push_marks;
+use crate::objects::push_flags;
 use classfile::ClassFile;
 use loading::given::GivenClass;
 use object_graph::Image;
 use sha2::{Digest, Sha256};
 use std::alloc::{AllocError, Global};
 
-/// The bytes of a class file's length and of its class's mark.
+/// The bytes of a class file's length and of its class's flag.
 const BESIDE_EACH_FILE: usize = 5;
 
 /// The bytes of what stands before the class files, and of the digest.
@@ -58,7 +58,7 @@ fn push_header(out: &mut Vec<u8>, count: u32) -> Result<(), AllocError>
     push_u32(out, count)
 }
 
-/// How many bytes the class files take, with their lengths and marks.
+/// How many bytes the class files take, with their lengths and flags.
 fn files_length(classes: &[GivenClass]) -> usize {
     let mut length = 0usize;
     for given in classes {
@@ -83,7 +83,7 @@ fn push_body(alloc: Global, out: &mut Vec<u8>, image: &Image) -> Result<(), Allo
     let classes = image.program().family().classes();
     push_header(out, classes.len() as u32)?;
     push_files(out, classes)?;
-    push_marks(alloc, out, image)
+    push_flags(alloc, out, image)
 }
 
 /// The digest of what stands before.

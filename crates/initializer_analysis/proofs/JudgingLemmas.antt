@@ -27,7 +27,7 @@ use Rattle.initializer_analysis.specs.Verdicts.{IsAccepted, IsVerdict, AreVerdic
 use Rattle.initializer_analysis.specs.steps.Dependence.{vertex_of, IsDependence}
 use Rattle.initializer_analysis.specs.steps.Judging.{own_reason, AreOwnLabels, AreFirstThere}
 use Rattle.initializer_analysis.specs.steps.Judging.{DependsOnRefused, AreRefused}
-use Rattle.initializer_analysis.specs.steps.Judging.{AreClassMarks, verdict_by, AreVerdictsBy}
+use Rattle.initializer_analysis.specs.steps.Judging.{AreClassFlags, verdict_by, AreVerdictsBy}
 use Rattle.initializer_analysis.proofs.LeastLemmas.{IsFirst-least, IsFirst-is}
 use Rattle.initializer_analysis.proofs.DependenceLemmas.{use_reached, next_use, two_on_cycle}
 
@@ -92,9 +92,9 @@ module _ (P : Tables) (uses : UseGraph) (graph : Rows) (whole : IsUseGraph P use
   -- ---- verdicts
 
   module _ (forced : List Bool) (own : List (Option Reason)) (refused : List Bool) (first : List (Option ℕ))
-      (heights : List ℕ) (marks : List Bool) (verdicts : List Verdict) (o : AreOwnReasons P forced own)
+      (heights : List ℕ) (flags : List Bool) (verdicts : List Verdict) (o : AreOwnReasons P forced own)
       (r : AreRefused P uses graph own refused) (f : AreFirstRefused P refused first)
-      (m : AreClassMarks uses (length P.classes) marks) (h : AreHeights graph marks heights)
+      (m : AreClassFlags uses (length P.classes) flags) (h : AreHeights graph flags heights)
       (v : AreVerdictsBy uses own first heights (length P.classes) verdicts) where
     abbrev first_of : ℕ → Option ℕ
     first_of c = slice_index_or first c None
@@ -224,11 +224,11 @@ module _ (P : Tables) (uses : UseGraph) (graph : Rows) (whole : IsUseGraph P use
                 | inr (d, used, rest) ↦ used_first e d less high used rest (same_or d e)
               ]
 
-          by : (x : ℕ) × (Reaches graph (at c) x × (¬ Reaches graph x (at c)) × IsTrue (slice_index_or marks x false))
+          by : (x : ℕ) × (Reaches graph (at c) x × (¬ Reaches graph x (at c)) × IsTrue (slice_index_or flags x false))
               × (height_of c ≡ slice_index heights x + 1)
               → (e : ℕ) × IsUse P c e × (n : ℕ) × HasWave verdicts e n × (height_of c ≡ n + 1)
-          by (x, (path, no_way, marked), high) =
-              let (e, less, same) = m.only x marked in
+          by (x, (path, no_way, flagged), high) =
+              let (e, less, same) = m.only x flagged in
               let up : height_of c ≡ height_of e + 1 =
               subst (λ (y : ℕ). height_of c ≡ slice_index heights y + 1) same high in
               let used = reached e less up (subst (λ (y : ℕ). Reaches graph (at c) y) same path)

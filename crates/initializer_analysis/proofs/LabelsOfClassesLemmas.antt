@@ -1,4 +1,4 @@
--- Labels, marks and verdicts of classes, one after another.
+-- Labels, flags and verdicts of classes, one after another.
 use Rattle.std.proofs.Common.{◌≡◌, ◌⊎◌, ℕ, ◌+◌, ◌-◌, ◌<◌, ◌≤◌, Bool, true}
 use Rattle.std.proofs.Common.{false, IsTrue, List, [], ◌∷◌, ◌++◌, length, Option}
 use Rattle.std.proofs.Common.{Some, None, IsSome, is_some, replicate}
@@ -15,8 +15,8 @@ use Rattle.initializer_analysis.specs.declared.verdict.Verdict.TheVariants.{Wave
 use Rattle.initializer_analysis.specs.Least.{IsOf}
 use Rattle.initializer_analysis.specs.steps.LeastReached.{no_labels, IsOwn}
 use Rattle.initializer_analysis.specs.steps.Dependence.{vertex_of}
-use Rattle.initializer_analysis.specs.steps.Judging.{label_by, own_reason, Labelled, AreOwnLabels, AreMarkedFrom}
-use Rattle.initializer_analysis.specs.steps.Judging.{AreClassMarks, verdict_by, AreVerdictsBy, AreFirstThere}
+use Rattle.initializer_analysis.specs.steps.Judging.{label_by, own_reason, Labelled, AreOwnLabels, AreFlaggedFrom}
+use Rattle.initializer_analysis.specs.steps.Judging.{AreClassFlags, verdict_by, AreVerdictsBy, AreFirstThere}
 use Rattle.initializer_analysis.proofs.OthersLemmas.{HoldsBelow, pushed_before, pushed_at, below_or_last}
 
 less_or : (k n : ℕ) → (k < n) ⊎ (n ≤ k)
@@ -104,14 +104,14 @@ own_labels_are uses own limit none labels is l = record {
         (l.kept v (omega (arith, count)) ∙ ap (λ (xs : List Least). slice_index_or xs v no_labels) is ∙ blank v) o))
     by v x o (inr high) = beyond v x o high (less_or v (length labels))
 
--- ---- marks
+-- ---- flags
 
-pub marked_none : (old : List Bool) → AreMarkedFrom 0 old old
-marked_none old = record { len = omega arith; kept = λ v low. refl; here = λ v high low. absurd (omega arith) }
+pub flagged_none : (old : List Bool) → AreFlaggedFrom 0 old old
+flagged_none old = record { len = omega arith; kept = λ v low. refl; here = λ v high low. absurd (omega arith) }
 
-pub marked_more : (c : ℕ) (old mid new : List Bool) → AreMarkedFrom c old mid → new ≡ mid ++ true ∷ []
-    → AreMarkedFrom (c + 1) old new
-marked_more c old mid new m is = subst (λ (xs : List Bool). AreMarkedFrom (c + 1) old xs) (sym is) (record {
+pub flagged_more : (c : ℕ) (old mid new : List Bool) → AreFlaggedFrom c old mid → new ≡ mid ++ true ∷ []
+    → AreFlaggedFrom (c + 1) old new
+flagged_more c old mid new m is = subst (λ (xs : List Bool). AreFlaggedFrom (c + 1) old xs) (sym is) (record {
   len = (let n = length_push mid true in omega (arith, m.len));
   kept = λ v low. pushed_before mid true false v (omega (arith, m.len)) ∙ m.kept v low;
   here = λ v high low. elim (less_or v (length mid)) [
@@ -120,12 +120,12 @@ marked_more c old mid new m is = subst (λ (xs : List Bool). AreMarkedFrom (c + 
   ];
 })
 
-pub class_marks_are : (uses : UseGraph) (limit : ℕ) (none marks : List Bool)
-    → none ≡ replicate (length uses.calls) false → AreMarkedFrom limit none marks → AreClassMarks uses limit marks
-class_marks_are uses limit none marks is m = record {
+pub class_flags_are : (uses : UseGraph) (limit : ℕ) (none flags : List Bool)
+    → none ≡ replicate (length uses.calls) false → AreFlaggedFrom limit none flags → AreClassFlags uses limit flags
+class_flags_are uses limit none flags is m = record {
   len = omega (arith, m.len, count);
   classes = λ c low. m.here (vertex_of uses c) (omega (arith, count)) (omega (arith, count));
-  only = λ v held. by v held (less_or v (length uses.calls)) (less_or v (length marks));
+  only = λ v held. by v held (less_or v (length uses.calls)) (less_or v (length flags));
 }
   where
     many : length (replicate (length uses.calls) false) ≡ length uses.calls
@@ -137,13 +137,13 @@ class_marks_are uses limit none marks is m = record {
     blank : (v : ℕ) → slice_index_or (replicate (length uses.calls) false) v false ≡ false
     blank v = grind (arith, common_steps)
 
-    past : (v : ℕ) → length marks ≤ v → slice_index_or marks v false ≡ false
+    past : (v : ℕ) → length flags ≤ v → slice_index_or flags v false ≡ false
     past v high = grind (arith, common_steps)
 
-    by : (v : ℕ) → IsTrue (slice_index_or marks v false) → (v < length uses.calls) ⊎ (length uses.calls ≤ v)
-        → (v < length marks) ⊎ (length marks ≤ v) → (c : ℕ) × (c < limit) × (v ≡ vertex_of uses c)
+    by : (v : ℕ) → IsTrue (slice_index_or flags v false) → (v < length uses.calls) ⊎ (length uses.calls ≤ v)
+        → (v < length flags) ⊎ (length flags ≤ v) → (c : ℕ) × (c < limit) × (v ≡ vertex_of uses c)
     by v held (inl low) under =
-        absurd (let denied : slice_index_or marks v false ≡ false =
+        absurd (let denied : slice_index_or flags v false ≡ false =
         m.kept v (omega (arith, count)) ∙ ap (λ (xs : List Bool). slice_index_or xs v false) is ∙ blank v in cc)
     by v held (inr high) (inr over) = absurd (let denied = past v over in cc)
     by v held (inr high) (inl under) =

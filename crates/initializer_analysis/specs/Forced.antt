@@ -1,6 +1,6 @@
--- Sets of given classes, as marks by number.
+-- Sets of given classes, as flags by number.
 use Rattle.std.specs.Prelude.{ℕ, Bool, false, List, slice_index_or}
 
--- whether a class is a member: a number beyond the marks is none
+-- whether a class is a member: a number beyond the flags is none
 abbrev pub has_class : List Bool → ℕ → Bool
-has_class marks class = slice_index_or marks class false
+has_class flags class = slice_index_or flags class false

@@ -4,7 +4,7 @@ use Rattle.program.specs.Tables.{Tables}
 use Rattle.use_graph.specs.Uses.{IsUse}
 use Rattle.initializer_analysis.specs.Least.{IsFirst}
 
--- a class uses this one, which is refused: a number beyond the marks is not
+-- a class uses this one, which is refused: a number beyond the flags is not
 abbrev pub IsRefusedUse : Tables → List Bool → ℕ → ℕ → Type 0
 IsRefusedUse P refused c e = IsUse P c e × IsTrue (slice_index_or refused e false)
 

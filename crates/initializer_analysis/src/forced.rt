@@ -10,7 +10,7 @@ use std::marker::Model;
 #[derive(Drop)]
 pub struct Forced {
     /// By number: whether the class is a member. Those beyond are none.
-    marks: Vec<bool>,
+    flags: Vec<bool>,
 }
 
 impl Model for Forced {
@@ -18,7 +18,7 @@ impl Model for Forced {
 
     ghost Value = { List Bool };
 
-    ghost view = { λ s. s.marks.items };
+    ghost view = { λ s. s.flags.items };
 }
 
 impl Forced {
@@ -27,23 +27,23 @@ impl Forced {
         ensures { result ≡ [] }
     {
         Forced {
-            marks: Vec::new(alloc),
+            flags: Vec::new(alloc),
         }
     }
 
-    /// The classes that are marked, by their numbers.
-    pub fn of_marks(marks: Vec<bool>) -> Forced
-        ensures { result ≡ marks.items }
+    /// The classes that are flagged, by their numbers.
+    pub fn of_flags(flags: Vec<bool>) -> Forced
+        ensures { result ≡ flags.items }
     {
-        Forced { marks }
+        Forced { flags }
     }
 
     /// Whether a class is a member.
     pub fn has(&self, class: u32) -> bool
         ensures { result ≡ has_class self.now class }
     {
-        match self.marks.get(class as usize) {
-            Some(mark) => *mark,
+        match self.flags.get(class as usize) {
+            Some(flag) => *flag,
             None => false,
         }
     }

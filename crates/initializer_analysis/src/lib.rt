@@ -3,11 +3,11 @@
 
 mod cycles;
 mod dependence;
+mod flagged_heights;
 pub mod forced;
 mod judging;
 mod labels;
 pub mod laws;
-mod marked_heights;
 mod marking;
 mod reached_labels;
 mod reasons;

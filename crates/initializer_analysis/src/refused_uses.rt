@@ -16,12 +16,12 @@ use program::Program;
 use std::alloc::{AllocError, Global};
 use use_graph::{UseGraph, start_of};
 
-/// Whether a class is refused: a number beyond the marks is not.
+/// Whether a class is refused: a number beyond the flags is not.
 fn is_refused(refused: &[bool], class: u32) -> bool
     ensures { result ≡ slice_index_or refused.now class false }
 {
     match refused.get(class as usize) {
-        Some(mark) => *mark,
+        Some(flag) => *flag,
         None => false,
     }
 }

@@ -3,31 +3,31 @@
 ghost use Rattle.std.specs.Prelude.{◌≡◌, length, IfOk, OnOk};
 ghost use Rattle.graph.specs.Components.{AreComponents};
 ghost use Rattle.initializer_analysis.specs.steps.Dependence.{IsDependence};
-ghost use Rattle.initializer_analysis.specs.steps.Judging.{AreMarkedFrom, AreClassMarks, AreClassHeights};
+ghost use Rattle.initializer_analysis.specs.steps.Judging.{AreFlaggedFrom, AreClassFlags, AreClassHeights};
 
-use crate::marked_heights::heights;
+use crate::flagged_heights::heights;
 use graph::{Components, Graph};
 use program::Program;
 use std::alloc::{AllocError, Global};
 use use_graph::UseGraph;
 
-/// Adds a mark for each class.
-fn mark_classes(limit: u32, marks: &mut Vec<bool>) -> Result<(), AllocError>
-    ensures { OnOk result (AreMarkedFrom limit marks.old.items marks.new.items) }
+/// Adds a flag for each class.
+fn flag_classes(limit: u32, flags: &mut Vec<bool>) -> Result<(), AllocError>
+    ensures { OnOk result (AreFlaggedFrom limit flags.old.items flags.new.items) }
 {
     for _class in 0..limit {
-        marks.push(true)?;
+        flags.push(true)?;
     }
     Ok(())
 }
 
-/// Marks the vertices of classes.
-fn class_marks(alloc: Global, uses: &UseGraph, limit: u32) -> Result<Vec<bool>, AllocError>
-    ensures { IfOk result (λ marks. AreClassMarks uses.now limit marks.items) }
+/// Flags the vertices of classes.
+fn class_flags(alloc: Global, uses: &UseGraph, limit: u32) -> Result<Vec<bool>, AllocError>
+    ensures { IfOk result (λ flags. AreClassFlags uses.now limit flags.items) }
 {
-    let mut marks = vec![in alloc; false; uses.calls.len()]?;
-    match mark_classes(limit, &mut marks) {
-        Ok(()) => Ok(marks),
+    let mut flags = vec![in alloc; false; uses.calls.len()]?;
+    match flag_classes(limit, &mut flags) {
+        Ok(()) => Ok(flags),
         Err(error) => Err(error),
     }
 }
@@ -45,7 +45,7 @@ pub(crate) fn class_heights(
     ensures len { IfOk result (λ heights. length heights.items ≡ length graph.now) }
     ensures heights { IfOk result (λ heights. AreClassHeights program.now uses.now graph.now heights.items) }
 {
-    let marks = class_marks(alloc, uses, program.given_count())?;
-    let heights = heights(alloc, graph, components, marks.as_slice())?;
+    let flags = class_flags(alloc, uses, program.given_count())?;
+    let heights = heights(alloc, graph, components, flags.as_slice())?;
     Ok(heights)
 }

@@ -16,7 +16,7 @@ use Rattle.object_graph.specs.Cuts.{IsCutRegion, IsCutAt, IsCutOf, AreReached}
 use Rattle.object_graph.specs.Images.{AreSmall}
 use Rattle.object_graph.specs.Reached.{IsReached}
 use Rattle.object_graph.specs.steps.Kept.{is_among, kept_from, kept_in, kept_region}
-use Rattle.object_graph.specs.steps.Places.{row_of, row_in, name_in, IsReachedAt}
+use Rattle.object_graph.specs.steps.Places.{held_pool, pool_in, name_in, IsReachedAt}
 use Rattle.object_graph.proofs.CutsLemmas.{part_whole, part_small, all_reached}
 use Rattle.object_graph.proofs.KeptLemmas.{place, among, from_kept, object_kept}
 use Rattle.object_graph.proofs.RowLemmas.{stands}
@@ -53,8 +53,8 @@ module _ (P : Tables) (regions : List (Option Held)) (found : List Place)
   module _ (held : Held) (here : region_in regions c ≡ Some held) where
     -- what stands in the row
     stood : (i : ℕ) (o : ℕ × Object) → slice_get held.objects.objects i ≡ Some o
-        → slice_get (row_in regions c).objects i ≡ Some o
-    stood i o at = ap (λ (r : Option Held). slice_get (row_of r).objects i) here ∙ at
+        → slice_get (pool_in regions c).objects i ≡ Some o
+    stood i o at = ap (λ (r : Option Held). slice_get (held_pool r).objects i) here ∙ at
 
     found_reached : (i : ℕ) (o : ℕ × Object) → slice_get held.objects.objects i ≡ Some o
         → is_among found (place c i) ≡ true → IsReached P (environment_of regions) (name_in c o)

@@ -13,9 +13,9 @@ use Rattle.region_shape.specs.declared.regions.Region.{Region as Held}
 use Rattle.region_shape.specs.Regions.{environment_of}
 use Rattle.object_graph.specs.Idle.{AreReachedOf, IsFirstIdle}
 use Rattle.object_graph.specs.Reached.{IsReached}
-use Rattle.object_graph.specs.steps.Places.{row_in, name_in, Ascends, AreFound, IsReachedAt}
+use Rattle.object_graph.specs.steps.Places.{pool_in, name_in, Ascends, AreFound, IsReachedAt}
 use Rattle.object_graph.proofs.KeptLemmas.{place}
-use Rattle.object_graph.proofs.RowLemmas.{stands, found_in, object_by_row}
+use Rattle.object_graph.proofs.RowLemmas.{stands, found_in, object_by_pool}
 
 -- ---- the first so many places
 
@@ -40,12 +40,12 @@ found_all found c i n le all = (λ e. λ k lt. all k (omega (arith, lt, le)), λ
 
 module _ (P : Tables) (regions : List (Option Held)) (found : List Place)
     (are : (x : Place) → Contains found x ↔ IsReachedAt P regions x) where
-  pub class_found : (c count : ℕ) → count ≡ length (row_in regions c).objects → AreFound found c count
+  pub class_found : (c count : ℕ) → count ≡ length (pool_in regions c).objects → AreFound found c count
       → AreReachedOf P (environment_of regions) c
   class_found c count many all n o at =
-      let s = stands (row_in regions c).objects n o
-      (sym (object_by_row regions (record { class = c; number = n })) ∙ at) in
-      let lt = slice_get_within (row_in regions c).objects s.0.index s.0.held s.0.at in
+      let s = stands (pool_in regions c).objects n o
+      (sym (object_by_pool regions (record { class = c; number = n })) ∙ at) in
+      let lt = slice_get_within (pool_in regions c).objects s.0.index s.0.held s.0.at in
       let r = (are (place c s.0.index)).0 (all s.0.index (omega (arith, lt, many))) in
       let both : Some r.held ≡ Some s.0.held = sym r.at ∙ s.0.at in
       let same : r.held ≡ s.0.held = cc in
@@ -53,15 +53,15 @@ module _ (P : Tables) (regions : List (Option Held)) (found : List Place)
       let R : ℕ → Type 0 = λ k. IsReached P (environment_of regions) (record { class = c; number = k }) in
       subst R s.0.number (subst Q same r.reached)
 
-  pub all_found : (c count : ℕ) → count ≡ length (row_in regions c).objects → Ascends (row_in regions c)
+  pub all_found : (c count : ℕ) → count ≡ length (pool_in regions c).objects → Ascends (pool_in regions c)
       → AreReachedOf P (environment_of regions) c → AreFound found c count
   all_found c count many rise all i lt =
-      let low : i < length (row_in regions c).objects = omega (arith, lt, many) in
-      let held = get_or (row_in regions c).objects i (first (row_in regions c).objects low) in
-      let at : slice_get (row_in regions c).objects i ≡ Some held =
-      slice_get-get_or (row_in regions c).objects i (first (row_in regions c).objects low) low in
-      let there = object_by_row regions (record { class = c; number = held.0 })
-      ∙ found_in (row_in regions c) i held rise at in
+      let low : i < length (pool_in regions c).objects = omega (arith, lt, many) in
+      let held = get_or (pool_in regions c).objects i (first (pool_in regions c).objects low) in
+      let at : slice_get (pool_in regions c).objects i ≡ Some held =
+      slice_get-get_or (pool_in regions c).objects i (first (pool_in regions c).objects low) low in
+      let there = object_by_pool regions (record { class = c; number = held.0 })
+      ∙ found_in (pool_in regions c) i held rise at in
       (are (place c i)).1 (record { held = held; at = at; reached = all held.0 held.1 there })
     where
       first : (xs : List (ℕ × Object)) → i < length xs → ℕ × Object

@@ -23,9 +23,9 @@ use Rattle.object_graph.specs.Images.{AreSmall}
 use Rattle.object_graph.specs.Names.{AreDistinct}
 use Rattle.object_graph.specs.Reached.{object_among, object_of, IsReached}
 use Rattle.object_graph.specs.steps.Listed.{names_of, names_below}
-use Rattle.object_graph.specs.steps.Places.{row_in, Ascends, name_in}
+use Rattle.object_graph.specs.steps.Places.{pool_in, Ascends, name_in}
 use Rattle.object_graph.proofs.HeldLemmas.{reached_held}
-use Rattle.object_graph.proofs.RowLemmas.{stands, some_held, one_index, object_by_row}
+use Rattle.object_graph.proofs.RowLemmas.{stands, some_held, one_index, object_by_pool}
 
 -- ---- the names of a class
 
@@ -133,56 +133,56 @@ distinct_append xs ys first second apart i j x at_i at_j = elim (cases_lt i (len
 -- the object of a name of one of the first so many classes
 pub record IsBelow (regions : List (Option Held)) (n : ℕ) (x : ObjectName) : Type 0 where
   pub class : x.class < n
-  pub named : IsNamed x.class (row_in regions x.class).objects x
+  pub named : IsNamed x.class (pool_in regions x.class).objects x
 
 module _ (regions : List (Option Held)) where
   pub listed_below : (n : ℕ) (x : ObjectName) → Contains (names_below regions n) x → IsBelow regions n x
   listed_below zero x h = absurd (omega (arith, h.1))
   listed_below (suc n) x h =
-      elim (Contains-append_cases (names_below regions n) (names_of n (row_in regions n).objects) x h) [
+      elim (Contains-append_cases (names_below regions n) (names_of n (pool_in regions n).objects) x h) [
         | inl before ↦
             let r = listed_below n x before in
             let low = r.class in
             record { class = omega (arith, low); named = r.named }
         | inr here ↦
-            let named = listed_name n (row_in regions n).objects x here in
+            let named = listed_name n (pool_in regions n).objects x here in
             let same : n ≡ x.class = ap (λ (y : ObjectName). y.class) named.is in
-            let Q : ℕ → Type 0 = λ c. IsNamed c (row_in regions c).objects x in
+            let Q : ℕ → Type 0 = λ c. IsNamed c (pool_in regions c).objects x in
             record { class = omega (arith, same); named = subst Q same named }
       ]
 
   pub below_listed : (n : ℕ) (c i : ℕ) (held : ℕ × Object) → c < n
-      → slice_get (row_in regions c).objects i ≡ Some held → Contains (names_below regions n) (name_in c held)
+      → slice_get (pool_in regions c).objects i ≡ Some held → Contains (names_below regions n) (name_in c held)
   below_listed zero c i held low at = absurd (omega (arith, low))
   below_listed (suc n) c i held low at = elim (cases_lt c n) [
     | inl less ↦
-        Contains-append_left (names_below regions n) (names_of n (row_in regions n).objects) (name_in c held)
+        Contains-append_left (names_below regions n) (names_of n (pool_in regions n).objects) (name_in c held)
         (below_listed n c i held less at)
     | inr high ↦
         let same : c ≡ n = omega (arith, low, high) in
-        let Q : ℕ → Type 0 = λ d. Contains (names_of d (row_in regions d).objects) (name_in c held) in
-        Contains-append_right (names_below regions n) (names_of n (row_in regions n).objects) (name_in c held)
-        (subst Q same (name_listed c (row_in regions c).objects i held at))
+        let Q : ℕ → Type 0 = λ d. Contains (names_of d (pool_in regions d).objects) (name_in c held) in
+        Contains-append_right (names_below regions n) (names_of n (pool_in regions n).objects) (name_in c held)
+        (subst Q same (name_listed c (pool_in regions c).objects i held at))
   ]
 
   pub below_more : (n : ℕ)
-      → names_below regions (n + 1) ≡ names_below regions n ++ names_of n (row_in regions n).objects
+      → names_below regions (n + 1) ≡ names_below regions n ++ names_of n (pool_in regions n).objects
   below_more n = let k : n + 1 ≡ suc n = omega arith in ap (names_below regions) k
 
   pub names_more : (n : ℕ) (names new : List ObjectName) → names ≡ names_below regions n
-      → new ≡ names ++ names_of n (row_in regions n).objects → new ≡ names_below regions (n + 1)
+      → new ≡ names ++ names_of n (pool_in regions n).objects → new ≡ names_below regions (n + 1)
   names_more n names new listed is =
-      is ∙ ap (λ (xs : List ObjectName). xs ++ names_of n (row_in regions n).objects) listed ∙ sym (below_more n)
+      is ∙ ap (λ (xs : List ObjectName). xs ++ names_of n (pool_in regions n).objects) listed ∙ sym (below_more n)
 
-  pub distinct_more : (n : ℕ) → AreDistinct (names_below regions n) → Ascends (row_in regions n)
+  pub distinct_more : (n : ℕ) → AreDistinct (names_below regions n) → Ascends (pool_in regions n)
       → AreDistinct (names_below regions (n + 1))
   distinct_more n before rise =
       subst AreDistinct (sym (below_more n))
-      (distinct_append (names_below regions n) (names_of n (row_in regions n).objects) before
-      (distinct_of n (row_in regions n) rise)
+      (distinct_append (names_below regions n) (names_of n (pool_in regions n).objects) before
+      (distinct_of n (pool_in regions n) rise)
       (λ x was now.
       let low = (listed_below n x was).class in
-      let named = listed_name n (row_in regions n).objects x now in
+      let named = listed_name n (pool_in regions n).objects x now in
       let same : n ≡ x.class = ap (λ (y : ObjectName). y.class) named.is in
       omega (arith, low, same)))
 
@@ -199,10 +199,10 @@ module _ (P : Tables) (regions : List (Option Held)) (whole : AreWhole P (enviro
   listed_reached n x h =
       let r = listed_below regions n x h in
       let number : r.named.held.0 ≡ x.number = ap (λ (y : ObjectName). y.number) r.named.is in
-      let there = some_held (row_in regions x.class).objects r.named.index r.named.held r.named.at in
-      let Q : ℕ → Type 0 = λ k. is_some (object_in (row_in regions x.class).objects k) ≡ true in
-      let s = some_of (object_in (row_in regions x.class).objects x.number) (subst Q number there) in
-      reached x s.0 (object_by_row regions x ∙ s.1)
+      let there = some_held (pool_in regions x.class).objects r.named.index r.named.held r.named.at in
+      let Q : ℕ → Type 0 = λ k. is_some (object_in (pool_in regions x.class).objects k) ≡ true in
+      let s = some_of (object_in (pool_in regions x.class).objects x.number) (subst Q number there) in
+      reached x s.0 (object_by_pool regions x ∙ s.1)
 
   class_there : (x : ObjectName) (o : Object) → object_of (environment_of regions) x ≡ Some o
       → x.class < length P.classes
@@ -218,7 +218,7 @@ module _ (P : Tables) (regions : List (Option Held)) (whole : AreWhole P (enviro
   reached_listed n x all is =
       let s = some_of (object_of (environment_of regions) x)
       (reached_held P (environment_of regions) whole.closed x is) in
-      let w = stands (row_in regions x.class).objects x.number s.0 (sym (object_by_row regions x) ∙ s.1) in
+      let w = stands (pool_in regions x.class).objects x.number s.0 (sym (object_by_pool regions x) ∙ s.1) in
       let low : x.class < n = omega (arith, class_there x s.0 s.1, all) in
       let named : name_in x.class w.0.held ≡ x = ap (λ (k : ℕ). record { class = x.class; number = k }) w.0.number in
       subst (Contains (names_below regions n)) named

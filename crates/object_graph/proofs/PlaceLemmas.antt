@@ -23,7 +23,7 @@ use Rattle.region_shape.specs.declared.regions.Region.{Region as Held}
 use Rattle.region_shape.specs.Regions.{region_of, region_in, environment_of}
 use Rattle.object_graph.specs.declared.name_set.ObjectName.{ObjectName}
 use Rattle.object_graph.specs.Reached.{reference_to}
-use Rattle.object_graph.specs.steps.Places.{row_in, name_in, Ascends, IsPlaceOf, HoldPlace, IsInFields, IsInStaticsOf}
+use Rattle.object_graph.specs.steps.Places.{pool_in, name_in, Ascends, IsPlaceOf, HoldPlace, IsInFields, IsInStaticsOf}
 use Rattle.object_graph.specs.steps.Places.{HoldsPlace}
 use Rattle.object_graph.proofs.RowLemmas.{standing, one_index, found_in}
 
@@ -32,20 +32,20 @@ place_is x y p q = λ i. record { row = p i; index = q i }
 
 -- what refers to an object by its class and number refers to the one at its place
 module _ (regions : List (Option Held)) (c n : ℕ) where
-  row_is : (x : Place) (p : IsPlaceOf regions (values.OfClass c n) x) → x.row ≡ c
-  row_is x p = let is = p.is in (let same : c ≡ x.row = cc in sym same)
+  pool_is : (x : Place) (p : IsPlaceOf regions (values.OfClass c n) x) → x.row ≡ c
+  pool_is x p = let is = p.is in (let same : c ≡ x.row = cc in sym same)
 
   number_is : (x : Place) (p : IsPlaceOf regions (values.OfClass c n) x) → p.held.0 ≡ n
   number_is x p = let is = p.is in (let same : n ≡ p.held.0 = cc in sym same)
 
-  at_row : (x : Place) (p : IsPlaceOf regions (values.OfClass c n) x)
-      → slice_get (row_in regions c).objects x.index ≡ Some p.held
-  at_row x p =
-      let Q : ℕ → Type 0 = λ d. slice_get (row_in regions d).objects x.index ≡ Some p.held in
-      subst Q (row_is x p) p.at
+  at_pool : (x : Place) (p : IsPlaceOf regions (values.OfClass c n) x)
+      → slice_get (pool_in regions c).objects x.index ≡ Some p.held
+  at_pool x p =
+      let Q : ℕ → Type 0 = λ d. slice_get (pool_in regions d).objects x.index ≡ Some p.held in
+      subst Q (pool_is x p) p.at
 
-  pub in_place : (index : ℕ) → Ascends (row_in regions c)
-      → is_some (object_at_place (row_in regions c).objects index n) ≡ true
+  pub in_place : (index : ℕ) → Ascends (pool_in regions c)
+      → is_some (object_at_place (pool_in regions c).objects index n) ≡ true
       → (x : Place) → IsPlaceOf regions (values.OfClass c n) x ↔ (x ≡ record { row = c; index = index })
   in_place index rise some x = (there, back)
     where
@@ -54,27 +54,27 @@ module _ (regions : List (Option Held)) (c n : ℕ) where
 
       there : IsPlaceOf regions (values.OfClass c n) x → x ≡ here
       there p =
-          let s = standing (row_in regions c).objects index n some in
-          let same = one_index (row_in regions c) x.index s.0.index p.held s.0.held rise (at_row x p) s.0.at
+          let s = standing (pool_in regions c).objects index n some in
+          let same = one_index (pool_in regions c) x.index s.0.index p.held s.0.held rise (at_pool x p) s.0.at
           (number_is x p ∙ sym s.0.number) in
-          place_is x here (row_is x p) (same ∙ s.1)
+          place_is x here (pool_is x p) (same ∙ s.1)
 
       back : x ≡ here → IsPlaceOf regions (values.OfClass c n) x
       back e =
-          let s = standing (row_in regions c).objects index n some in
-          let at : slice_get (row_in regions c).objects index ≡ Some s.0.held =
-          ap (λ (i : ℕ). slice_get (row_in regions c).objects i) (sym s.1) ∙ s.0.at in
+          let s = standing (pool_in regions c).objects index n some in
+          let at : slice_get (pool_in regions c).objects index ≡ Some s.0.held =
+          ap (λ (i : ℕ). slice_get (pool_in regions c).objects i) (sym s.1) ∙ s.0.at in
           let placed : IsPlaceOf regions (values.OfClass c n) here =
           record { held = s.0.held; at = at; is = ap (λ (k : ℕ). values.OfClass c k) (sym s.0.number) } in
           let Q : Place → Type 0 = λ y. IsPlaceOf regions (values.OfClass c n) y in
           subst Q (sym e) placed
 
-  pub no_place : Ascends (row_in regions c) → object_in (row_in regions c).objects n ≡ None → (x : Place)
+  pub no_place : Ascends (pool_in regions c) → object_in (pool_in regions c).objects n ≡ None → (x : Place)
       → IsPlaceOf regions (values.OfClass c n) x → ⊥
   no_place rise none x p =
-      let found = found_in (row_in regions c) x.index p.held rise (at_row x p) in
+      let found = found_in (pool_in regions c) x.index p.held rise (at_pool x p) in
       let clash : None ≡ Some p.held.1 =
-      sym none ∙ ap (λ (k : ℕ). object_in (row_in regions c).objects k) (sym (number_is x p)) ∙ found in
+      sym none ∙ ap (λ (k : ℕ). object_in (pool_in regions c).objects k) (sym (number_is x p)) ∙ found in
       cc
 
 pub one_place : (regions : List (Option Held)) (v : Value) (place : Place) (old new : List Place)
@@ -213,7 +213,7 @@ module _ (P : Tables) (regions : List (Option Held)) where
 -- ---- what an object refers to
 
 object_adds : (regions : List (Option Held)) (x : Place) (held : ℕ × Object) (slots : List Value)
-    (old new : List Place) → Some held ≡ slice_get (row_in regions x.row).objects x.index → slots ≡ held.1.slots
+    (old new : List Place) → Some held ≡ slice_get (pool_in regions x.row).objects x.index → slots ≡ held.1.slots
     → Adds old (HoldPlace regions slots) new → Adds old (HoldsPlace regions x) new
 object_adds regions x held slots old new here all a =
     adds_same old new (HoldPlace regions slots) (HoldsPlace regions x)
@@ -230,10 +230,10 @@ object_adds regions x held slots old new here all a =
     a
 
 pub object_holds : (regions : List (Option Held)) (x : Place) (n : ℕ) (k : Kept) (old new : List Place)
-    → Some (n, k) ≡ option_map numbered_kept (slice_get (row_in regions x.row).objects x.index)
+    → Some (n, k) ≡ option_map numbered_kept (slice_get (pool_in regions x.row).objects x.index)
     → Adds old (HoldPlace regions k.slots) new → Adds old (HoldsPlace regions x) new
 object_holds regions x n k old new there a =
-    let r = is_at (row_in regions x.row).objects x.index n k there in
+    let r = is_at (pool_in regions x.row).objects x.index n k there in
     object_adds regions x r.held k.slots old new (sym r.at) (ap (λ (z : Kept). z.slots) (sym r.kept)) a
 
 no_object : (o : Option (ℕ × Object)) (held : ℕ × Object) → None ≡ option_map numbered_kept o → o ≡ Some held → ⊥
@@ -241,8 +241,8 @@ no_object None held none some = cc
 no_object (Some z) held none some = cc
 
 pub holds_nothing : (regions : List (Option Held)) (x : Place) (found : List Place)
-    → None ≡ option_map numbered_kept (slice_get (row_in regions x.row).objects x.index)
+    → None ≡ option_map numbered_kept (slice_get (pool_in regions x.row).objects x.index)
     → Adds found (HoldsPlace regions x) found
 holds_nothing regions x found none =
     adds_none found (HoldsPlace regions x)
-    (λ y h. no_object (slice_get (row_in regions x.row).objects x.index) h.held none h.at)
+    (λ y h. no_object (slice_get (pool_in regions x.row).objects x.index) h.held none h.at)

@@ -12,7 +12,7 @@ use Rattle.region_shape.specs.declared.regions.Region.{Region as Held}
 use Rattle.region_shape.specs.Regions.{region_of, region_in, environment_of}
 use Rattle.object_graph.specs.declared.name_set.ObjectName.{ObjectName}
 use Rattle.object_graph.specs.Reached.{object_among, object_of}
-use Rattle.object_graph.specs.steps.Places.{row_of, row_in, Ascends}
+use Rattle.object_graph.specs.steps.Places.{held_pool, pool_in, Ascends}
 
 pub or_later_none : (o : Option Object) → or_later None o ≡ o
 or_later_none None = refl
@@ -123,10 +123,10 @@ one_index row i j a b rise p q same = elim (cases_lt i j) [
 -- ---- regions and rows
 
 -- the object of a name is that of its number in the row of its class
-pub object_by_row : (regions : List (Option Held)) (x : ObjectName)
-    → object_of (environment_of regions) x ≡ object_in (row_in regions x.class).objects x.number
-object_by_row regions x = by (region_in regions x.class)
+pub object_by_pool : (regions : List (Option Held)) (x : ObjectName)
+    → object_of (environment_of regions) x ≡ object_in (pool_in regions x.class).objects x.number
+object_by_pool regions x = by (region_in regions x.class)
   where
-    by : (o : Option Held) → object_among (option_map region_of o) x.number ≡ object_in (row_of o).objects x.number
+    by : (o : Option Held) → object_among (option_map region_of o) x.number ≡ object_in (held_pool o).objects x.number
     by None = refl
     by (Some r) = refl

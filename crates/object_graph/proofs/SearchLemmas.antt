@@ -14,8 +14,9 @@ use Rattle.region_shape.specs.declared.regions.Region.{Region as Held}
 use Rattle.region_shape.specs.Regions.{environment_of}
 use Rattle.object_graph.specs.declared.name_set.ObjectName.{ObjectName}
 use Rattle.object_graph.specs.Reached.{reference_to, IsReached, static, held}
-use Rattle.object_graph.specs.steps.Places.{row_in, Ascends, name_in, IsPlaceOf, IsInStaticsOf, HoldsPlace, IsReachedAt}
-use Rattle.object_graph.proofs.RowLemmas.{stands, found_in, object_by_row}
+use Rattle.object_graph.specs.steps.Places.{pool_in, Ascends, name_in, IsPlaceOf, IsInStaticsOf, HoldsPlace}
+use Rattle.object_graph.specs.steps.Places.{IsReachedAt}
+use Rattle.object_graph.proofs.RowLemmas.{stands, found_in, object_by_pool}
 
 -- what the objects of the first so many places refer to has been added
 pub record Searching (P : Tables) (regions : List (Option Held)) (found : List Place) (next : ℕ) : Type 0 where
@@ -34,14 +35,14 @@ module _ (P : Tables) (regions : List (Option Held)) where
   statics_reached c x (region, here, (k, low, p)) =
       reached_at (region.fields k) x p (static c (region, here, (k, low, p.is)))
 
-  slots_reached : (x y : Place) → Ascends (row_in regions x.row) → IsReachedAt P regions x → HoldsPlace regions x y
+  slots_reached : (x y : Place) → Ascends (pool_in regions x.row) → IsReachedAt P regions x → HoldsPlace regions x y
       → IsReachedAt P regions y
   slots_reached x y rise r h =
       let both : Some r.held ≡ Some h.held = sym r.at ∙ h.at in
       let same : r.held ≡ h.held = cc in
       let name : ObjectName = name_in x.row h.held in
       let R : ℕ × Object → Type 0 = λ z. IsReached P (environment_of regions) (name_in x.row z) in
-      let object = object_by_row regions name ∙ found_in (row_in regions x.row) x.index h.held rise h.at in
+      let object = object_by_pool regions name ∙ found_in (pool_in regions x.row) x.index h.held rise h.at in
       let Q : Value → Type 0 = λ w. Contains h.held.1.slots w in
       reached_at h.holds.value y h.holds.place
       (held {x = name} (subst R same r.reached) (h.held.1, object, subst Q h.holds.place.is h.holds.holds))
@@ -57,7 +58,7 @@ module _ (P : Tables) (regions : List (Option Held)) where
     closed = λ k x y low at h. absurd (omega arith);
   }
 
-  pub searching_next : (found new : List Place) (next : ℕ) (place : Place) → Ascends (row_in regions place.row)
+  pub searching_next : (found new : List Place) (next : ℕ) (place : Place) → Ascends (pool_in regions place.row)
       → slice_get found next ≡ Some place → Searching P regions found next → Adds found (HoldsPlace regions place) new
       → Searching P regions new (next + 1)
   searching_next found new next place rise at s a = record {
@@ -90,7 +91,7 @@ module _ (P : Tables) (regions : List (Option Held)) where
   all_found found next all s y (static c (region, here, (k, low, holds))) x p =
       s.starts c x (region, here, (k, low, subst (λ (w : Value). IsPlaceOf regions w x) (sym holds) p))
   all_found found next all s y (held {x = z} from (object, at, holds)) x p =
-      let w = stands (row_in regions z.class).objects z.number object (sym (object_by_row regions z) ∙ at) in
+      let w = stands (pool_in regions z.class).objects z.number object (sym (object_by_pool regions z) ∙ at) in
       let there : Place = record { row = z.class; index = w.0.index } in
       let placed : IsPlaceOf regions (reference_to z) there = record {
         held = w.0.held;

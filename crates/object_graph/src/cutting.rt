@@ -3,7 +3,7 @@
 ghost use Rattle.std.specs.Prelude.{◌≡◌, ◌≢◌, ◌++◌, ℕ, ◌<◌, ◌≤◌, IfOk, OnOk};
 ghost use Rattle.vm_state.specs.declared.object.Object.{Object};
 ghost use Rattle.region_shape.specs.Regions.{region_in};
-ghost use Rattle.object_graph.specs.steps.Kept.{only_if, kept_from, kept_row, kept_region};
+ghost use Rattle.object_graph.specs.steps.Kept.{only_if, kept_from, kept_pool, kept_region};
 
 use place_set::PlaceSet;
 use region_shape::regions::{Region, Regions};
@@ -44,11 +44,11 @@ fn found_objects(
     Ok(kept)
 }
 
-/// The row of a class with those objects alone whose places are found.
-fn found_pool(alloc: Global, found: &PlaceSet, class: u32, row: Pool) -> Result<Pool, AllocError>
-    ensures { IfOk result (λ kept. kept ≡ kept_row found.now class row) }
+/// The pool of a class with those objects alone whose places are found.
+fn found_pool(alloc: Global, found: &PlaceSet, class: u32, pool: Pool) -> Result<Pool, AllocError>
+    ensures { IfOk result (λ kept. kept ≡ kept_pool found.now class pool) }
 {
-    let (count, objects) = row.into_parts(alloc)?;
+    let (count, objects) = pool.into_parts(alloc)?;
     match found_objects(alloc, found, class, objects) {
         Ok(kept) => Pool::of_objects(alloc, count, kept),
         Err(error) => Err(error),

@@ -7,7 +7,7 @@ ghost use Rattle.object_graph.specs.declared.name_set.ObjectName.{ObjectName as 
 ghost use Rattle.object_graph.specs.Names.{AreDistinct};
 ghost use Rattle.object_graph.specs.Reached.{IsReached};
 ghost use Rattle.object_graph.specs.steps.Listed.{names_of, names_below};
-ghost use Rattle.object_graph.specs.steps.Places.{row_in, Ascends};
+ghost use Rattle.object_graph.specs.steps.Places.{pool_in, Ascends};
 
 use crate::image::Image;
 use crate::name_set::{NameSet, ObjectName};
@@ -19,8 +19,8 @@ use std::alloc::{AllocError, Global};
 /// Adds the names of the objects of a class.
 fn add_names(regions: &Regions, class: u32, names: &mut Vec<ObjectName>) -> Result<(), AllocError>
     ensures all { OnOk result (names.new.items
-        ≡ names.old.items ++ names_of class (row_in regions.now class).objects) }
-    ensures ascending { Ascends (row_in regions.now class) }
+        ≡ names.old.items ++ names_of class (pool_in regions.now class).objects) }
+    ensures ascending { Ascends (pool_in regions.now class) }
 {
     for index in 0..count_in(regions, class) {
         let place = Place {

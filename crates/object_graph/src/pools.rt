@@ -1,11 +1,11 @@
-//! The rows of objects of regions, and the places of objects in them.
+//! The pools of regions, and the places of objects in them.
 
 ghost use Rattle.std.specs.Prelude.{◌≡◌, ◌↔◌, None, length, slice_get, option_map, IfNone, IfSome, IsSome, MatchOption};
 ghost use Rattle.place_set.specs.declared.set.Place.{Place as Found};
 ghost use Rattle.vm_state.specs.declared.value.Value.TheVariants.{OfClass};
 ghost use Rattle.vm_state.specs.Objects.{numbered_kept, object_in};
 ghost use Rattle.vm_state.specs.steps.Objects.{object_at_place};
-ghost use Rattle.object_graph.specs.steps.Places.{row_in, Ascends, IsPlaceOf};
+ghost use Rattle.object_graph.specs.steps.Places.{pool_in, Ascends, IsPlaceOf};
 
 use place_set::Place;
 use region_shape::regions::Regions;
@@ -14,8 +14,8 @@ use vm_state::value::Value;
 
 /// How many objects the region of a class holds; none where it has no region.
 pub(crate) fn count_in(regions: &Regions, class: u32) -> usize
-    ensures all { result ≡ length (row_in regions.now class).objects }
-    ensures ascending { Ascends (row_in regions.now class) }
+    ensures all { result ≡ length (pool_in regions.now class).objects }
+    ensures ascending { Ascends (pool_in regions.now class) }
 {
     match regions.get(class) {
         Some(region) => region.objects.len(),
@@ -26,8 +26,8 @@ pub(crate) fn count_in(regions: &Regions, class: u32) -> usize
 /// The object of a place with its number, if there is one.
 pub(crate) fn object_at(regions: &Regions, place: Place) -> Option<(u64, &Kept)>
     ensures value { option_map (λ o. (o.0, o.1.now)) result
-        ≡ option_map numbered_kept (slice_get (row_in regions.now place.row).objects place.index) }
-    ensures ascending { Ascends (row_in regions.now place.row) }
+        ≡ option_map numbered_kept (slice_get (pool_in regions.now place.row).objects place.index) }
+    ensures ascending { Ascends (pool_in regions.now place.row) }
 {
     let _count = count_in(regions, place.row);
     match regions.get(place.row) {
@@ -36,10 +36,10 @@ pub(crate) fn object_at(regions: &Regions, place: Place) -> Option<(u64, &Kept)>
     }
 }
 
-/// The index of the object of a number in the row of a class, if it is held.
+/// The index of the object of a number in the pool of a class, if it is held.
 fn index_in(regions: &Regions, class: u32, number: u64) -> Option<usize>
-    ensures held { IfSome result (λ index. IsSome (object_at_place (row_in regions.now class).objects index number)) }
-    ensures none { IfNone result (object_in (row_in regions.now class).objects number ≡ None) }
+    ensures held { IfSome result (λ index. IsSome (object_at_place (pool_in regions.now class).objects index number)) }
+    ensures none { IfNone result (object_in (pool_in regions.now class).objects number ≡ None) }
 {
     match regions.get(class) {
         Some(region) => region.objects.place(number),

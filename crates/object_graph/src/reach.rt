@@ -5,7 +5,7 @@ ghost use Rattle.std.specs.List.{Contains};
 ghost use Rattle.vm_state.specs.Statics.{field_in};
 ghost use Rattle.place_set.specs.declared.set.Place.{Place as Found};
 ghost use Rattle.place_set.specs.steps.Adds.{Adds};
-ghost use Rattle.object_graph.specs.steps.Places.{row_in, Ascends, IsPlaceOf, HoldPlace, IsInFields, IsInStaticsOf};
+ghost use Rattle.object_graph.specs.steps.Places.{pool_in, Ascends, IsPlaceOf, HoldPlace, IsInFields, IsInStaticsOf};
 ghost use Rattle.object_graph.specs.steps.Places.{HoldsPlace, IsReachedAt};
 
 use crate::counting::static_count;
@@ -123,7 +123,7 @@ fn visit_object(
     found: &mut PlaceSet,
 ) -> Result<(), AllocError>
     ensures added { OnOk result (Adds found.old (HoldsPlace regions.now place) found.new) }
-    ensures ascending { Ascends (row_in regions.now place.row) }
+    ensures ascending { Ascends (pool_in regions.now place.row) }
 {
     match object_at(regions, place) {
         Some(held) => visit_slots(alloc, regions, &held.1.slots, found),

@@ -8,11 +8,11 @@ use Rattle.std.proofs.lemmas.Bool.{cases_eq, cases_lt}
 use Rattle.std.proofs.lemmas.List.{get_or-set_same, get_or-set_other, length-set, take_all}
 use Rattle.std.proofs.lemmas.Option.{same_Some, slice_get_within, slice_get_cases}
 use Rattle.options.specs.Patterns.{spelled}
-use Rattle.options.specs.steps.Marks.{IsMarked, Grow}
+use Rattle.options.specs.steps.Flags.{IsFlagged, Grow}
 use Rattle.options.specs.steps.Names.{IsInRun, IsRunOf}
 use Rattle.options.specs.steps.Covering.{Covers, CoversMore, IsMatchedAt, IsKnownIn, IsMatchedByOne, AreCoveredBy}
 use Rattle.options.specs.steps.Covering.{IsOfUnknown, of_text, IsOfFirstUnknown, of_place, IsCoveredClass}
-use Rattle.options.specs.steps.Covering.{IsEndOf, AreMarkedTo}
+use Rattle.options.specs.steps.Covering.{IsEndOf, AreFlaggedTo}
 use Rattle.options.specs.steps.Texts.{Text}
 use Rattle.options.specs.declared.fault.OptionFault.{OptionFault}
 use Rattle.options.specs.declared.fault.OptionFault.TheVariants.{Memory, Unknown}
@@ -159,7 +159,7 @@ module _ (names : List DottedName) (patterns : List (List ℕ)) (first now : Lis
 -- ---- the classes at covered places
 
 module _ (names : List DottedName) (ends : List ℕ) (first old : List Bool) (count reach more : ℕ)
-    (before : AreMarkedTo names ends first old count reach) (is : more ≡ max (get_or ends count 0) reach) where
+    (before : AreFlaggedTo names ends first old count reach) (is : more ≡ max (get_or ends count 0) reach) where
   end_more : IsEndOf ends (count + 1) more
   end_more i = (to, from)
     where
@@ -188,12 +188,12 @@ module _ (names : List DottedName) (ends : List ℕ) (first old : List Bool) (co
   Marked limit c = (i : ℕ) × (n : DottedName) × (i < limit) × (slice_get names i ≡ Some n) × (n.class ≡ c)
       × Covers ends i
 
-  marked_before : (c : ℕ) → Marked count c → Marked (count + 1) c
-  marked_before c (i, n, small, at, number, covered) = (i, n, omega (arith, small), at, number, covered)
+  flagged_before : (c : ℕ) → Marked count c → Marked (count + 1) c
+  flagged_before c (i, n, small, at, number, covered) = (i, n, omega (arith, small), at, number, covered)
 
   module _ (name : DottedName) (at : slice_get names count ≡ Some name) where
-    marked_cases : (c : ℕ) → Marked (count + 1) c → Marked count c ⊎ ((c ≡ name.class) × (count < more))
-    marked_cases c (i, n, small, there, number, covered) = elim (cases_lt i count) [
+    flagged_cases : (c : ℕ) → Marked (count + 1) c → Marked count c ⊎ ((c ≡ name.class) × (count < more))
+    flagged_cases c (i, n, small, there, number, covered) = elim (cases_lt i count) [
       | inl below ↦ inl (i, n, below, there, number, covered)
       | inr past ↦
           let same : i ≡ count = omega (arith, small, past) in
@@ -201,65 +201,65 @@ module _ (names : List DottedName) (ends : List ℕ) (first old : List Bool) (co
           inr (sym number ∙ ap (λ (m : DottedName). m.class) one, covers_here.0 (subst (Covers ends) same covered))
     ]
 
-    pub marked_more : (new : List Bool) → count < more → Grow old new (λ c. c ≡ name.class)
-        → AreMarkedTo names ends first new (count + 1) more
-    marked_more new small grown = record {
+    pub flagged_more : (new : List Bool) → count < more → Grow old new (λ c. c ≡ name.class)
+        → AreFlaggedTo names ends first new (count + 1) more
+    flagged_more new small grown = record {
       end = end_more;
-      marks = record { len = grown.len ∙ before.marks.len; marks = λ c. (to c, from c) };
+      flags = record { len = grown.len ∙ before.flags.len; flags = λ c. (to c, from c) };
     }
       where
-        to : (c : ℕ) → IsMarked new c → IsMarked first c ⊎ Marked (count + 1) c
-        to c marked = elim ((grown.marks c).0 marked) [
-          | inl was ↦ elim ((before.marks.marks c).0 was) [
+        to : (c : ℕ) → IsFlagged new c → IsFlagged first c ⊎ Marked (count + 1) c
+        to c flagged = elim ((grown.flags c).0 flagged) [
+          | inl was ↦ elim ((before.flags.flags c).0 was) [
             | inl at-first ↦ inl at-first
-            | inr some ↦ inr (marked_before c some)
+            | inr some ↦ inr (flagged_before c some)
           ]
           | inr same ↦ inr (count, name, omega arith, at, sym same, covers_here.1 small)
         ]
 
-        from : (c : ℕ) → IsMarked first c ⊎ Marked (count + 1) c → IsMarked new c
-        from c (inl at-first) = (grown.marks c).1 (inl ((before.marks.marks c).1 (inl at-first)))
-        from c (inr some) = elim (marked_cases c some) [
-          | inl was ↦ (grown.marks c).1 (inl ((before.marks.marks c).1 (inr was)))
-          | inr here ↦ (grown.marks c).1 (inr here.0)
+        from : (c : ℕ) → IsFlagged first c ⊎ Marked (count + 1) c → IsFlagged new c
+        from c (inl at-first) = (grown.flags c).1 (inl ((before.flags.flags c).1 (inl at-first)))
+        from c (inr some) = elim (flagged_cases c some) [
+          | inl was ↦ (grown.flags c).1 (inl ((before.flags.flags c).1 (inr was)))
+          | inr here ↦ (grown.flags c).1 (inr here.0)
         ]
 
-  pub marked_same : count < length names → more ≤ count → AreMarkedTo names ends first old (count + 1) more
-  marked_same small short = record {
+  pub flagged_same : count < length names → more ≤ count → AreFlaggedTo names ends first old (count + 1) more
+  flagged_same small short = record {
     end = end_more;
-    marks = record { len = before.marks.len; marks = λ c. (to c, from c) };
+    flags = record { len = before.flags.len; flags = λ c. (to c, from c) };
   }
     where
       there : (name : DottedName) × (slice_get names count ≡ Some name)
       there = slice_get_there names count small
 
-      to : (c : ℕ) → IsMarked old c → IsMarked first c ⊎ Marked (count + 1) c
-      to c marked = elim ((before.marks.marks c).0 marked) [
+      to : (c : ℕ) → IsFlagged old c → IsFlagged first c ⊎ Marked (count + 1) c
+      to c flagged = elim ((before.flags.flags c).0 flagged) [
         | inl at-first ↦ inl at-first
-        | inr some ↦ inr (marked_before c some)
+        | inr some ↦ inr (flagged_before c some)
       ]
 
-      from : (c : ℕ) → IsMarked first c ⊎ Marked (count + 1) c → IsMarked old c
-      from c (inl at-first) = (before.marks.marks c).1 (inl at-first)
-      from c (inr some) = elim (marked_cases there.0 there.1 c some) [
-        | inl was ↦ (before.marks.marks c).1 (inr was)
+      from : (c : ℕ) → IsFlagged first c ⊎ Marked (count + 1) c → IsFlagged old c
+      from c (inl at-first) = (before.flags.flags c).1 (inl at-first)
+      from c (inr some) = elim (flagged_cases there.0 there.1 c some) [
+        | inl was ↦ (before.flags.flags c).1 (inr was)
         | inr here ↦ absurd (omega (arith, here.1, short))
       ]
 
-pub marked_all : (names : List DottedName) (ends : List ℕ) (first now : List Bool) (count reach : ℕ)
-    → length names ≤ count → AreMarkedTo names ends first now count reach
+pub flagged_all : (names : List DottedName) (ends : List ℕ) (first now : List Bool) (count reach : ℕ)
+    → length names ≤ count → AreFlaggedTo names ends first now count reach
     → Grow first now (IsCoveredClass names ends)
-marked_all names ends first now count reach end done =
-    record { len = done.marks.len; marks = λ c. (to c, from c) }
+flagged_all names ends first now count reach end done =
+    record { len = done.flags.len; flags = λ c. (to c, from c) }
   where
-    to : (c : ℕ) → IsMarked now c → IsMarked first c ⊎ IsCoveredClass names ends c
-    to c marked = elim ((done.marks.marks c).0 marked) [
+    to : (c : ℕ) → IsFlagged now c → IsFlagged first c ⊎ IsCoveredClass names ends c
+    to c flagged = elim ((done.flags.flags c).0 flagged) [
       | inl at-first ↦ inl at-first
       | inr (i, n, small, at, number, covered) ↦ inr (i, n, at, number, covered)
     ]
 
-    from : (c : ℕ) → IsMarked first c ⊎ IsCoveredClass names ends c → IsMarked now c
-    from c (inl at-first) = (done.marks.marks c).1 (inl at-first)
+    from : (c : ℕ) → IsFlagged first c ⊎ IsCoveredClass names ends c → IsFlagged now c
+    from c (inl at-first) = (done.flags.flags c).1 (inl at-first)
     from c (inr (i, n, at, number, covered)) =
-        (done.marks.marks c).1
+        (done.flags.flags c).1
         (inr (i, n, (let within = slice_get_within names i n at in omega (arith, within, end)), at, number, covered))

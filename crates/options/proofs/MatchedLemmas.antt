@@ -14,7 +14,7 @@ use Rattle.loading.proofs.PlaceLemmas.{contains_at, mapped_at, place_in}
 use Rattle.options.specs.Patterns.{dotted, spelled, IsIn}
 use Rattle.options.specs.Classes.{IsMatched, MatchesClass, AreClasses}
 use Rattle.options.specs.Faults.{IsKnown, PatternsFail, unknown}
-use Rattle.options.specs.steps.Marks.{IsMarked, Grow}
+use Rattle.options.specs.steps.Flags.{IsFlagged, Grow}
 use Rattle.options.specs.steps.Names.{AreNames, Begins}
 use Rattle.options.specs.steps.Covering.{CoversMore, IsKnownIn, IsMatchedByOne, IsCoveredClass}
 use Rattle.options.specs.steps.Covering.{IsMatchedClass, IsOfFirstUnknown, of_place}
@@ -93,10 +93,10 @@ module _ (family : Family) (names : List DottedName) (are : AreNames family (len
           let one = name_of_class some.pattern c some.matches in
           (one.0, one.1, one.2, one.3, (some.pattern, some.listed, (one.1, one.2, one.4)))
 
-  pub classes_are : (marks : List Bool) (patterns : List (List ℕ)) → AreClasses marks (IsMatchedClass names patterns)
-      → AreClasses marks (IsMatched family patterns)
-  classes_are marks patterns are-names c = (
-    λ marked. (matched_is patterns c).0 ((are-names c).0 marked),
+  pub classes_are : (flags : List Bool) (patterns : List (List ℕ)) → AreClasses flags (IsMatchedClass names patterns)
+      → AreClasses flags (IsMatched family patterns)
+  classes_are flags patterns are-names c = (
+    λ flagged. (matched_is patterns c).0 ((are-names c).0 flagged),
     λ some. (are-names c).1 ((matched_is patterns c).1 some),
   )
 
@@ -117,21 +117,21 @@ names_within family names are =
     All-weaker (Contains names) (λ (n : DottedName). n.class < length names)
     (λ n held. (let one = are.each n held in omega (arith, one.0, are.count))) names (All-contains_itself names)
 
--- ---- marks and ends that were nothing at first
+-- ---- flags and ends that were nothing at first
 
-none_first : (n c : ℕ) → IsMarked (replicate n false) c → ⊥
+none_first : (n c : ℕ) → IsFlagged (replicate n false) c → ⊥
 none_first zero c is = cc
 none_first (suc n) zero is = cc
 none_first (suc n) (suc c) is = none_first n c is
 
-pub marked_alone : (P : ℕ → Type 0) (n : ℕ) (first now : List Bool) → first ≡ replicate n false → Grow first now P
+pub flagged_alone : (P : ℕ → Type 0) (n : ℕ) (first now : List Bool) → first ≡ replicate n false → Grow first now P
     → AreClasses now P
-marked_alone P n first now is grown c = (
-  λ marked. elim ((grown.marks c).0 marked) [
-    | inl was ↦ absurd (none_first n c (subst (λ (marks : List Bool). IsMarked marks c) is was))
+flagged_alone P n first now is grown c = (
+  λ flagged. elim ((grown.flags c).0 flagged) [
+    | inl was ↦ absurd (none_first n c (subst (λ (flags : List Bool). IsFlagged flags c) is was))
     | inr one ↦ one
   ],
-  λ one. (grown.marks c).1 (inr one),
+  λ one. (grown.flags c).1 (inr one),
 )
 
 nothing_there : (n j : ℕ) → get_or (replicate {A = ℕ} n 0) j 0 ≡ 0
@@ -139,13 +139,13 @@ nothing_there zero j = refl
 nothing_there (suc n) zero = refl
 nothing_there (suc n) (suc j) = nothing_there n j
 
-pub classes_covered : (names : List DottedName) (patterns : List (List ℕ)) (n : ℕ) (ends : List ℕ) (marks : List Bool)
-    → CoversMore (replicate n 0) ends (IsMatchedByOne names patterns) → AreClasses marks (IsCoveredClass names ends)
-    → AreClasses marks (IsMatchedClass names patterns)
-classes_covered names patterns n ends marks covers are c = (to, from)
+pub classes_covered : (names : List DottedName) (patterns : List (List ℕ)) (n : ℕ) (ends : List ℕ) (flags : List Bool)
+    → CoversMore (replicate n 0) ends (IsMatchedByOne names patterns) → AreClasses flags (IsCoveredClass names ends)
+    → AreClasses flags (IsMatchedClass names patterns)
+classes_covered names patterns n ends flags covers are c = (to, from)
   where
-    to : IsMarked marks c → IsMatchedClass names patterns c
-    to marked = by ((are c).0 marked)
+    to : IsFlagged flags c → IsMatchedClass names patterns c
+    to flagged = by ((are c).0 flagged)
       where
         by : IsCoveredClass names ends c → IsMatchedClass names patterns c
         by (i, name, at, number, covered) = elim ((covers.places i).0 covered) [
@@ -153,7 +153,7 @@ classes_covered names patterns n ends marks covers are c = (to, from)
           | inr one ↦ (i, name, at, number, one)
         ]
 
-    from : IsMatchedClass names patterns c → IsMarked marks c
+    from : IsMatchedClass names patterns c → IsFlagged flags c
     from (i, name, at, number, one) = (are c).1 (i, name, at, number, (covers.places i).1 (inr one))
 
 -- ---- what is read, and what was written

@@ -49,4 +49,4 @@ IsDemanded family patterns class = IsAtOrAbove family (IsMatched family patterns
 
 -- a set has the classes of this kind and no others
 abbrev pub AreClasses : List Bool → (ℕ → Type 0) → Type 0
-AreClasses marks P = (class : ℕ) → IsTrue (has_class marks class) ↔ P class
+AreClasses flags P = (class : ℕ) → IsTrue (has_class flags class) ↔ P class

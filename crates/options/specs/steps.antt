@@ -1,5 +1,5 @@
 pub mod Texts
-pub mod Marks
+pub mod Flags
 pub mod Names
 pub mod Covering
 pub mod Unmet

@@ -1,12 +1,12 @@
-//! Marks along superclasses.
+//! Flags along superclasses.
 
 ghost use Rattle.std.specs.Prelude.{◌≡◌, ℕ, ◌<◌, IfSome, length, option_to_list};
 ghost use Rattle.std.specs.List.{Contains};
 ghost use Rattle.loading.specs.Families.{superclasses_in};
 ghost use Rattle.options.specs.Classes.{AreClasses, IsAtOrAbove, IsAtOrBelow};
-ghost use Rattle.options.specs.steps.Marks.{Grow, HasMarkedSuperclass, IsMarked};
+ghost use Rattle.options.specs.steps.Flags.{Grow, HasFlaggedSuperclass, IsFlagged};
 
-use crate::marks::mark;
+use crate::flags::flag;
 use loading::family::Family;
 use loading::given::Superclass;
 
@@ -21,54 +21,54 @@ fn given_superclass(family: &Family, class: u32) -> Option<u32>
     }
 }
 
-/// Marks each class below a marked one.
-pub(crate) fn mark_below(family: &Family, marks: &mut [bool])
-    requires { length marks.old ≡ length family.now }
-    ensures len { length marks.new ≡ length marks.old }
-    ensures marks { AreClasses marks.new (IsAtOrBelow family.now (IsMarked marks.old)) }
+/// Flags each class below a flagged one.
+pub(crate) fn flag_below(family: &Family, flags: &mut [bool])
+    requires { length flags.old ≡ length family.now }
+    ensures len { length flags.new ≡ length flags.old }
+    ensures flags { AreClasses flags.new (IsAtOrBelow family.now (IsFlagged flags.old)) }
 {
     for class in family.parents_first() {
-        mark_below_one(family, *class, marks);
+        flag_below_one(family, *class, flags);
     }
 }
 
-/// Marks a class whose superclass is marked.
-fn mark_below_one(family: &Family, class: u32, marks: &mut [bool])
-    requires within { class < length marks.old }
-    requires len { length marks.old ≡ length family.now }
-    ensures { Grow marks.old marks.new (λ c. (c ≡ class) × HasMarkedSuperclass family.now marks.old class) }
+/// Flags a class whose superclass is flagged.
+fn flag_below_one(family: &Family, class: u32, flags: &mut [bool])
+    requires within { class < length flags.old }
+    requires len { length flags.old ≡ length family.now }
+    ensures { Grow flags.old flags.new (λ c. (c ≡ class) × HasFlaggedSuperclass family.now flags.old class) }
 {
     let Some(above) = given_superclass(family, class) else {
         return;
     };
-    if marks[above as usize] {
-        mark(marks, class as usize);
+    if flags[above as usize] {
+        flag(flags, class as usize);
     }
 }
 
-/// Marks each class above a marked one.
-pub(crate) fn mark_above(family: &Family, marks: &mut [bool])
-    requires { length marks.old ≡ length family.now }
-    ensures len { length marks.new ≡ length marks.old }
-    ensures marks { AreClasses marks.new (IsAtOrAbove family.now (IsMarked marks.old)) }
+/// Flags each class above a flagged one.
+pub(crate) fn flag_above(family: &Family, flags: &mut [bool])
+    requires { length flags.old ≡ length family.now }
+    ensures len { length flags.new ≡ length flags.old }
+    ensures flags { AreClasses flags.new (IsAtOrAbove family.now (IsFlagged flags.old)) }
 {
     let order = family.parents_first();
     for place in (0..order.len()).rev() {
-        mark_above_one(family, order[place], marks);
+        flag_above_one(family, order[place], flags);
     }
 }
 
-/// Marks the superclass of a marked class.
-fn mark_above_one(family: &Family, class: u32, marks: &mut [bool])
-    requires within { class < length marks.old }
-    requires len { length marks.old ≡ length family.now }
-    ensures { Grow marks.old marks.new
-        (λ c. IsMarked marks.old class × Contains (superclasses_in family.now class) c) }
+/// Flags the superclass of a flagged class.
+fn flag_above_one(family: &Family, class: u32, flags: &mut [bool])
+    requires within { class < length flags.old }
+    requires len { length flags.old ≡ length family.now }
+    ensures { Grow flags.old flags.new
+        (λ c. IsFlagged flags.old class × Contains (superclasses_in family.now class) c) }
 {
-    if !marks[class as usize] {
+    if !flags[class as usize] {
         return;
     }
     if let Some(above) = given_superclass(family, class) {
-        mark(marks, above as usize);
+        flag(flags, above as usize);
     }
 }

@@ -2,11 +2,11 @@
 
 ghost use Rattle.std.specs.Prelude.{◌≡◌, ℕ, ◌<◌, length};
 ghost use Rattle.std.specs.List.{All};
-ghost use Rattle.options.specs.steps.Marks.{Grow};
+ghost use Rattle.options.specs.steps.Flags.{Grow};
 ghost use Rattle.options.specs.steps.Names.{IsInRun};
 ghost use Rattle.options.specs.steps.Covering.{CoversMore, IsCoveredClass};
 
-use crate::marks::mark;
+use crate::flags::flag;
 use crate::sorted_names::{DottedName, NameRange};
 
 /// Covers the places of a run: where a run from its first place ends is no earlier than its own end.
@@ -19,17 +19,17 @@ pub(crate) fn cover(run: NameRange, ends: &mut [usize])
     }
 }
 
-/// Marks the classes whose names stand at covered places.
-pub(crate) fn mark_covered(names: &[DottedName], ends: &[usize], marks: &mut [bool])
+/// Flags the classes whose names stand at covered places.
+pub(crate) fn flag_covered(names: &[DottedName], ends: &[usize], flags: &mut [bool])
     requires len { length ends.now ≡ length names.now }
-    requires within { All (λ n. n.class < length marks.old) names.now }
-    ensures { Grow marks.old marks.new (IsCoveredClass names.now ends.now) }
+    requires within { All (λ n. n.class < length flags.old) names.now }
+    ensures { Grow flags.old flags.new (IsCoveredClass names.now ends.now) }
 {
     let mut end = 0;
     for place in 0..names.len() {
         end = ends[place].max(end);
         if place < end {
-            mark(marks, names[place].class as usize);
+            flag(flags, names[place].class as usize);
         }
     }
 }

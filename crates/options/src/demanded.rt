@@ -9,7 +9,7 @@ use std::marker::Model;
 #[derive(Drop)]
 pub struct Demand {
     /// By number: whether the class is a member. Those beyond are none.
-    marks: Vec<bool>,
+    flags: Vec<bool>,
 }
 
 impl Model for Demand {
@@ -17,23 +17,23 @@ impl Model for Demand {
 
     ghost Value = { List Bool };
 
-    ghost view = { λ s. s.marks.items };
+    ghost view = { λ s. s.flags.items };
 }
 
 impl Demand {
-    /// The classes that are marked, by their numbers.
-    pub(crate) fn of_marks(marks: Vec<bool>) -> Demand
-        ensures { result ≡ marks.items }
+    /// The classes that are flagged, by their numbers.
+    pub(crate) fn of_flags(flags: Vec<bool>) -> Demand
+        ensures { result ≡ flags.items }
     {
-        Demand { marks }
+        Demand { flags }
     }
 
     /// Whether a class is a member.
     pub fn has(&self, class: u32) -> bool
         ensures { result ≡ has_class self.now class }
     {
-        match self.marks.get(class as usize) {
-            Some(mark) => *mark,
+        match self.flags.get(class as usize) {
+            Some(flag) => *flag,
             None => false,
         }
     }

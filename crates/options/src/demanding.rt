@@ -4,10 +4,10 @@ ghost use Rattle.std.specs.Prelude.{◌≡◌, ◌⊎◌, ◌<◌, ◌↔◌, le
 ghost use Rattle.std.specs.List.{All};
 ghost use Rattle.options.specs.Classes.{AreClasses, IsAtOrAbove, IsDemanded};
 ghost use Rattle.options.specs.Faults.{DemandFails, PatternsFail, AreApart, IsBoth, IsKnown, IsLeastBoth, IsOfBoth};
-ghost use Rattle.options.specs.steps.Marks.{IsMarked};
+ghost use Rattle.options.specs.steps.Flags.{IsFlagged};
 ghost use Rattle.options.specs.declared.fault.OptionFault.TheVariants.{Memory};
 
-use crate::chains::mark_above;
+use crate::chains::flag_above;
 use crate::demanded::Demand;
 use crate::fault::OptionFault;
 use crate::matching::matched_in;
@@ -38,7 +38,7 @@ pub fn demand(
 {
     let family = program.family();
     match demanded_in(alloc, family, patterns) {
-        Ok(marks) => demand_of(alloc, family, marks, forced),
+        Ok(flags) => demand_of(alloc, family, flags, forced),
         Err(fault) => Err(fault),
     }
 }
@@ -49,67 +49,67 @@ fn demanded_in(
     family: &Family,
     patterns: &Patterns,
 ) -> Result<Vec<bool>, OptionFault>
-    ensures len { IfOk result (λ marks. length marks.items ≡ length family.now) }
-    ensures demanded { IfOk result (λ marks. AreClasses marks.items (IsDemanded family.now patterns.now)) }
+    ensures len { IfOk result (λ flags. length flags.items ≡ length family.now) }
+    ensures demanded { IfOk result (λ flags. AreClasses flags.items (IsDemanded family.now patterns.now)) }
     ensures known { OnOk result (All (IsKnown family.now) patterns.now) }
     ensures fault { IfErr result (λ fault. (fault ≡ Memory) ⊎ PatternsFail family.now patterns.now fault) }
 {
     match matched_in(alloc, family, patterns) {
-        Ok(marks) => Ok(marked_above(family, marks)),
+        Ok(flags) => Ok(flagged_above(family, flags)),
         Err(fault) => Err(fault),
     }
 }
 
-/// The marks of the classes at and above the marked ones.
-fn marked_above(family: &Family, marks: Vec<bool>) -> Vec<bool>
-    requires { length marks.items ≡ length family.now }
+/// The flags of the classes at and above the flagged ones.
+fn flagged_above(family: &Family, flags: Vec<bool>) -> Vec<bool>
+    requires { length flags.items ≡ length family.now }
     ensures len { length result.items ≡ length family.now }
-    ensures marks { AreClasses result.items (IsAtOrAbove family.now (IsMarked marks.items)) }
+    ensures flags { AreClasses result.items (IsAtOrAbove family.now (IsFlagged flags.items)) }
 {
-    let mut marks = marks;
-    mark_above(family, &mut marks);
-    marks
+    let mut flags = flags;
+    flag_above(family, &mut flags);
+    flags
 }
 
-/// The marked classes, if none of them is forced.
+/// The flagged classes, if none of them is forced.
 fn demand_of(
     alloc: Global,
     family: &Family,
-    marks: Vec<bool>,
+    flags: Vec<bool>,
     forced: &Forced,
 ) -> Result<Demand, OptionFault>
-    requires { length marks.items ≡ length family.now }
-    ensures demand { IfOk result (λ demand. demand ≡ marks.items) }
-    ensures apart { OnOk result (AreApart (IsMarked marks.items) forced.now) }
+    requires { length flags.items ≡ length family.now }
+    ensures demand { IfOk result (λ demand. demand ≡ flags.items) }
+    ensures apart { OnOk result (AreApart (IsFlagged flags.items) forced.now) }
     ensures fault { IfErr result (λ fault. (fault ≡ Memory)
-        ⊎ IsOfBoth family.now (IsMarked marks.items) forced.now fault) }
+        ⊎ IsOfBoth family.now (IsFlagged flags.items) forced.now fault) }
 {
-    match first_both(family, &marks, forced) {
+    match first_both(family, &flags, forced) {
         Some(class) => Err(OptionFault::Both(class_name(alloc, family, class)?)),
-        None => Ok(Demand::of_marks(marks)),
+        None => Ok(Demand::of_flags(flags)),
     }
 }
 
-/// The first marked class that is forced.
-fn first_both(family: &Family, marks: &[bool], forced: &Forced) -> Option<u32>
-    requires { length marks.now ≡ length family.now }
-    ensures both { MatchOption result (AreApart (IsMarked marks.now) forced.now)
-        (IsLeastBoth (IsMarked marks.now) forced.now) }
+/// The first flagged class that is forced.
+fn first_both(family: &Family, flags: &[bool], forced: &Forced) -> Option<u32>
+    requires { length flags.now ≡ length family.now }
+    ensures both { MatchOption result (AreApart (IsFlagged flags.now) forced.now)
+        (IsLeastBoth (IsFlagged flags.now) forced.now) }
     ensures within { IfSome result (λ class. class < length family.now) }
 {
     let count = family.classes().len() as u32;
     for class in 0..count {
-        if is_both(marks, forced, class) {
+        if is_both(flags, forced, class) {
             return Some(class);
         }
     }
     None
 }
 
-/// Whether a class is marked and forced.
-fn is_both(marks: &[bool], forced: &Forced, class: u32) -> bool
-    requires { class < length marks.now }
-    ensures { IsTrue result ↔ IsBoth (IsMarked marks.now) forced.now class }
+/// Whether a class is flagged and forced.
+fn is_both(flags: &[bool], forced: &Forced, class: u32) -> bool
+    requires { class < length flags.now }
+    ensures { IsTrue result ↔ IsBoth (IsFlagged flags.now) forced.now class }
 {
-    marks[class as usize] && forced.has(class)
+    flags[class as usize] && forced.has(class)
 }

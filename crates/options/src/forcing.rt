@@ -4,10 +4,10 @@ ghost use Rattle.std.specs.Prelude.{◌≡◌, ◌⊎◌, length, IfErr, IfOk, O
 ghost use Rattle.std.specs.List.{All};
 ghost use Rattle.options.specs.Classes.{AreClasses, IsAtOrBelow, IsForced};
 ghost use Rattle.options.specs.Faults.{PatternsFail, IsKnown};
-ghost use Rattle.options.specs.steps.Marks.{IsMarked};
+ghost use Rattle.options.specs.steps.Flags.{IsFlagged};
 ghost use Rattle.options.specs.declared.fault.OptionFault.TheVariants.{Memory};
 
-use crate::chains::mark_below;
+use crate::chains::flag_below;
 use crate::fault::OptionFault;
 use crate::matching::matched_in;
 use crate::patterns::Patterns;
@@ -29,17 +29,17 @@ pub fn force(alloc: Global, program: &Program, patterns: &Patterns) -> Result<Fo
 {
     let family = program.family();
     match matched_in(alloc, family, patterns) {
-        Ok(marks) => Ok(forced_of(family, marks)),
+        Ok(flags) => Ok(forced_of(family, flags)),
         Err(fault) => Err(fault),
     }
 }
 
-/// The classes at and below the marked ones.
-fn forced_of(family: &Family, marks: Vec<bool>) -> Forced
-    requires { length marks.items ≡ length family.now }
-    ensures { AreClasses result (IsAtOrBelow family.now (IsMarked marks.items)) }
+/// The classes at and below the flagged ones.
+fn forced_of(family: &Family, flags: Vec<bool>) -> Forced
+    requires { length flags.items ≡ length family.now }
+    ensures { AreClasses result (IsAtOrBelow family.now (IsFlagged flags.items)) }
 {
-    let mut marks = marks;
-    mark_below(family, &mut marks);
-    Forced::of_marks(marks)
+    let mut flags = flags;
+    flag_below(family, &mut flags);
+    Forced::of_flags(flags)
 }

@@ -5,14 +5,14 @@ ghost use Rattle.std.specs.List.{All};
 ghost use Rattle.options.specs.Patterns.{spelled};
 ghost use Rattle.options.specs.Classes.{AreClasses, IsMatched};
 ghost use Rattle.options.specs.Faults.{PatternsFail, IsKnown};
-ghost use Rattle.options.specs.steps.Marks.{Grow};
+ghost use Rattle.options.specs.steps.Flags.{Grow};
 ghost use Rattle.options.specs.steps.Names.{AreSorted, IsRunOf};
 ghost use Rattle.options.specs.steps.Covering.{CoversMore, IsMatchedAt, IsKnownIn, IsMatchedByOne, IsMatchedClass};
 ghost use Rattle.options.specs.steps.Covering.{IsCoveredClass, IsOfUnknown, IsOfFirstUnknown};
 ghost use Rattle.options.specs.steps.Texts.{Text};
 ghost use Rattle.options.specs.declared.fault.OptionFault.TheVariants.{Memory, Unknown};
 
-use crate::covering::{cover, mark_covered};
+use crate::covering::{cover, flag_covered};
 use crate::fault::OptionFault;
 use crate::patterns::Patterns;
 use crate::sorted_names::{DottedName, NameRange, run_of, sorted_names};
@@ -29,8 +29,8 @@ pub(crate) fn matched_in(
     family: &Family,
     patterns: &Patterns,
 ) -> Result<Vec<bool>, OptionFault>
-    ensures len { IfOk result (λ marks. length marks.items ≡ length family.now) }
-    ensures marks { IfOk result (λ marks. AreClasses marks.items (IsMatched family.now patterns.now)) }
+    ensures len { IfOk result (λ flags. length flags.items ≡ length family.now) }
+    ensures flags { IfOk result (λ flags. AreClasses flags.items (IsMatched family.now patterns.now)) }
     ensures known { OnOk result (All (IsKnown family.now) patterns.now) }
     ensures fault { IfErr result (λ fault. (fault ≡ Memory) ⊎ PatternsFail family.now patterns.now fault) }
 {
@@ -48,49 +48,49 @@ fn matched_among(
 ) -> Result<Vec<bool>, OptionFault>
     requires sorted { AreSorted names.now }
     requires within { All (λ n. n.class < length names.now) names.now }
-    ensures len { IfOk result (λ marks. length marks.items ≡ length names.now) }
-    ensures marks { IfOk result (λ marks.
-        AreClasses marks.items (IsMatchedClass names.now (map string_bytes patterns.now))) }
+    ensures len { IfOk result (λ flags. length flags.items ≡ length names.now) }
+    ensures flags { IfOk result (λ flags.
+        AreClasses flags.items (IsMatchedClass names.now (map string_bytes patterns.now))) }
     ensures known { OnOk result (All (IsKnownIn names.now) (map string_bytes patterns.now)) }
     ensures fault { IfErr result
         (λ fault. (fault ≡ Memory) ⊎ IsOfFirstUnknown names.now (map string_bytes patterns.now) fault) }
 {
     match covered_by(alloc, names, patterns) {
-        Ok(ends) => marks_of(alloc, names, &ends),
+        Ok(ends) => flags_of(alloc, names, &ends),
         Err(fault) => Err(fault),
     }
 }
 
-/// The marks of the classes whose names stand at covered places.
-fn marks_of(alloc: Global, names: &[DottedName], ends: &[usize]) -> Result<Vec<bool>, OptionFault>
+/// The flags of the classes whose names stand at covered places.
+fn flags_of(alloc: Global, names: &[DottedName], ends: &[usize]) -> Result<Vec<bool>, OptionFault>
     requires len { length ends.now ≡ length names.now }
     requires within { All (λ n. n.class < length names.now) names.now }
-    ensures len { IfOk result (λ marks. length marks.items ≡ length names.now) }
-    ensures marks { IfOk result (λ marks. AreClasses marks.items (IsCoveredClass names.now ends.now)) }
+    ensures len { IfOk result (λ flags. length flags.items ≡ length names.now) }
+    ensures flags { IfOk result (λ flags. AreClasses flags.items (IsCoveredClass names.now ends.now)) }
     ensures fault { IfErr result (λ fault. fault ≡ Memory) }
 {
-    match no_marks(alloc, names.len()) {
-        Ok(marks) => Ok(covered_marks(names, ends, marks)),
+    match no_flags(alloc, names.len()) {
+        Ok(flags) => Ok(covered_flags(names, ends, flags)),
         Err(_) => Err(OptionFault::Memory),
     }
 }
 
-/// No marks, for `count` classes.
-fn no_marks(alloc: Global, count: usize) -> Result<Vec<bool>, AllocError>
-    ensures { IfOk result (λ marks. marks.items ≡ replicate count false) }
+/// No flags, for `count` classes.
+fn no_flags(alloc: Global, count: usize) -> Result<Vec<bool>, AllocError>
+    ensures { IfOk result (λ flags. flags.items ≡ replicate count false) }
 {
     vec![in alloc; false; count]
 }
 
-/// Marks, and those of the classes whose names stand at covered places.
-fn covered_marks(names: &[DottedName], ends: &[usize], marks: Vec<bool>) -> Vec<bool>
+/// Flags, and those of the classes whose names stand at covered places.
+fn covered_flags(names: &[DottedName], ends: &[usize], flags: Vec<bool>) -> Vec<bool>
     requires len { length ends.now ≡ length names.now }
-    requires within { All (λ n. n.class < length marks.items) names.now }
-    ensures { Grow marks.items result.items (IsCoveredClass names.now ends.now) }
+    requires within { All (λ n. n.class < length flags.items) names.now }
+    ensures { Grow flags.items result.items (IsCoveredClass names.now ends.now) }
 {
-    let mut marks = marks;
-    mark_covered(names, ends, &mut marks);
-    marks
+    let mut flags = flags;
+    flag_covered(names, ends, &mut flags);
+    flags
 }
 
 /// By place: where the longest run from there ends that a pattern matches.

@@ -98,7 +98,7 @@ fn after_files<'a>(files: &[Vec<u8>], bytes: &'a [u8]) -> &'a [u8] {
 }
 
 /// The files in the opposite order.
-fn turned(alloc: Global, files: &[Vec<u8>]) -> Result<Vec<Vec<u8>>, AllocError> {
+fn reversed(alloc: Global, files: &[Vec<u8>]) -> Result<Vec<Vec<u8>>, AllocError> {
     let mut others = Vec::new(alloc);
     for file in files.iter().rev() {
         others.push(file.clone()?)?;
@@ -113,7 +113,7 @@ fn workers<R: Threads + Wait + Sync>(
     files: &[Vec<u8>],
     bytes: &[u8],
 ) -> Result<String, AllocError> {
-    let others = turned(alloc, files)?;
+    let others = reversed(alloc, files)?;
     for workers in ["1", "2", "64"] {
         let words = format!(in alloc; "build --workers {workers} --out image")?;
         let one = built_by(rt, alloc, &words, files)?;
@@ -131,7 +131,7 @@ fn orders<R: Threads + Wait + Sync>(
     files: &[Vec<u8>],
     bytes: &[u8],
 ) -> Result<String, AllocError> {
-    let others = turned(alloc, files)?;
+    let others = reversed(alloc, files)?;
     let again = built(rt, alloc, &others)?;
     let text = if again.as_slice() == bytes {
         "same"

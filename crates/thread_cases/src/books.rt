@@ -20,12 +20,12 @@ use thread_runner::{Book, Commit, FrontStretch};
 /// What a thread takes from a book, and what it commits: all its frames, or its innermost one alone, as the threads of
 /// a run do.
 #[derive(Clone, Copy)]
-enum Extent {
+enum StretchKind {
     Frames,
     Front,
 }
 
-const EXTENTS: [Extent; 2] = [Extent::Frames, Extent::Front];
+const STRETCH_KINDS: [StretchKind; 2] = [StretchKind::Frames, StretchKind::Front];
 
 /// A stretch that was made so.
 #[derive(Drop)]
@@ -61,18 +61,18 @@ fn make<O: Origin>(
     alloc: Global,
     program: &Program,
     book: &Book<O>,
-    extent: Extent,
+    kind: StretchKind,
     done: DoneSet,
 ) -> Result<Made<O>, Fail>
     requires program { program.now ≡ O.program }
     requires thread { 0 < length book.now.past.world.threads }
 {
-    match extent {
-        Extent::Frames => {
+    match kind {
+        StretchKind::Frames => {
             let frames = book.frames(alloc, 0)?;
             Ok(Made::Frames(stretch::<O>(alloc, program, frames, &done)?))
         }
-        Extent::Front => match book.front(alloc, 0)? {
+        StretchKind::Front => match book.front(alloc, 0)? {
             Some(frame) => Ok(Made::Front(front_stretch::<O>(alloc, program, 0, frame, &done)?)),
             None => Ok(Made::Front(None)),
         },
@@ -101,7 +101,7 @@ fn commit_next<O: Origin>(
     alloc: Global,
     program: &Program,
     book: &mut Book<O>,
-    extent: Extent,
+    kind: StretchKind,
     known: bool,
 ) -> Result<Commit, Fail>
     requires { program.now ≡ O.program }
@@ -115,7 +115,7 @@ fn commit_next<O: Origin>(
     } else {
         DoneSet::none()
     };
-    let made = make::<O>(alloc, program, book, extent, done)?;
+    let made = make::<O>(alloc, program, book, kind, done)?;
     commit(alloc, program, book, made)
 }
 
@@ -124,7 +124,7 @@ fn commits_in<O: Origin>(
     alloc: Global,
     program: &Program,
     world: World,
-    extent: Extent,
+    kind: StretchKind,
     known: bool,
 ) -> Result<Commits, Fail>
     requires program { program.now ≡ O.program }
@@ -134,7 +134,7 @@ fn commits_in<O: Origin>(
     let mut steps = Vec::new(alloc);
     for _ in 0..20 {
         let before = steps_in(book.journal());
-        match commit_next(alloc, program, &mut book, extent, known)? {
+        match commit_next(alloc, program, &mut book, kind, known)? {
             Commit::Moved => steps.push(steps_in(book.journal()).wrapping_sub(before))?,
             Commit::Ended => {
                 let text = text_of(alloc, &book)?;
@@ -152,18 +152,18 @@ fn commits_of(
     text: &str,
     entry: &str,
     initialized: &[&str],
-    extent: Extent,
+    kind: StretchKind,
     known: bool,
 ) -> Result<Commits, Fail> {
     let program = program_of(alloc, text)?;
     let world = start_with(alloc, &program, &[entry], initialized)?;
-    commits_in::<Brand>(alloc, &program, world, extent, known)
+    commits_in::<Brand>(alloc, &program, world, kind, known)
 }
 
 #[test]
 fn a_loop_is_committed_by_stretches(rt: HostRuntime) -> Result<(), Fail> {
-    for extent in EXTENTS.iter() {
-        let made = commits_of(rt.alloc(), SPIN, "Spin", &["Spin"], *extent, true)?;
+    for kind in STRETCH_KINDS.iter() {
+        let made = commits_of(rt.alloc(), SPIN, "Spin", &["Spin"], *kind, true)?;
         assert_eq!(rt; made.steps.as_slice(), [1024, 1024, 956].as_slice());
         assert_eq!(rt; made.text.as_slice(), b"0 3004\n".as_slice());
     }
@@ -172,8 +172,8 @@ fn a_loop_is_committed_by_stretches(rt: HostRuntime) -> Result<(), Fail> {
 
 #[test]
 fn a_call_is_local_where_its_class_is_known(rt: HostRuntime) -> Result<(), Fail> {
-    for extent in EXTENTS.iter() {
-        let made = commits_of(rt.alloc(), SQ, "Main21", &["Sq", "Main21"], *extent, true)?;
+    for kind in STRETCH_KINDS.iter() {
+        let made = commits_of(rt.alloc(), SQ, "Main21", &["Sq", "Main21"], *kind, true)?;
         assert_eq!(rt; made.steps.as_slice(), [9].as_slice());
         assert_eq!(rt; made.text.as_slice(), b"0 9\n".as_slice());
     }
@@ -189,7 +189,7 @@ fn a_call_is_committed_where_its_class_is_not_known(rt: HostRuntime) -> Result<(
         SQ,
         "Main21",
         initialized.as_slice(),
-        Extent::Frames,
+        StretchKind::Frames,
         false,
     )?;
     assert_eq!(rt; made.steps.as_slice(), [1, 2, 6].as_slice());
@@ -199,7 +199,7 @@ fn a_call_is_committed_where_its_class_is_not_known(rt: HostRuntime) -> Result<(
         SQ,
         "Main21",
         initialized.as_slice(),
-        Extent::Front,
+        StretchKind::Front,
         false,
     )?;
     assert_eq!(rt; made.steps.as_slice(), [1, 2, 4, 2].as_slice());
@@ -212,13 +212,13 @@ fn commit_both<O: Origin>(
     alloc: Global,
     program: &Program,
     book: &mut Book<O>,
-    extent: Extent,
+    kind: StretchKind,
 ) -> Result<(Commit, Commit, Vec<u8>), Fail>
     requires program { program.now ≡ O.program }
     requires thread { 0 < length book.old.past.world.threads }
 {
-    let first = make::<O>(alloc, program, book, extent, DoneSet::none())?;
-    let other = make::<O>(alloc, program, book, extent, DoneSet::none())?;
+    let first = make::<O>(alloc, program, book, kind, DoneSet::none())?;
+    let other = make::<O>(alloc, program, book, kind, DoneSet::none())?;
     let counts = commit(alloc, program, book, first)?;
     let stale = commit(alloc, program, book, other)?;
     Ok((counts, stale, text_of(alloc, book)?))
@@ -229,7 +229,7 @@ fn commit_twice<O: Origin>(
     alloc: Global,
     program: &Program,
     world: World,
-    extent: Extent,
+    kind: StretchKind,
     later: bool,
 ) -> Result<(Commit, Commit, Vec<u8>), Fail>
     requires program { program.now ≡ O.program }
@@ -238,10 +238,10 @@ fn commit_twice<O: Origin>(
 {
     let mut book = Book::<O>::new(alloc, world, 10_000);
     if later {
-        let _first = commit_next(alloc, program, &mut book, extent, false)?;
-        commit_both(alloc, program, &mut book, extent)
+        let _first = commit_next(alloc, program, &mut book, kind, false)?;
+        commit_both(alloc, program, &mut book, kind)
     } else {
-        commit_both(alloc, program, &mut book, extent)
+        commit_both(alloc, program, &mut book, kind)
     }
 }
 
@@ -250,7 +250,7 @@ fn counts_once<R: AllocGlobal + Abort>(
     rt: &R,
     text: &str,
     entry: &str,
-    extent: Extent,
+    kind: StretchKind,
     later: bool,
     journal: &[u8],
 ) -> Result<(), Fail> {
@@ -259,7 +259,7 @@ fn counts_once<R: AllocGlobal + Abort>(
     if world.thread_count() == 0 {
         return Err(Fail::new("no thread"));
     }
-    let (counts, stale, text) = commit_twice::<Brand>(rt.alloc(), &program, world, extent, later)?;
+    let (counts, stale, text) = commit_twice::<Brand>(rt.alloc(), &program, world, kind, later)?;
     assert!(rt; matches!(counts, Commit::Moved));
     assert!(rt; matches!(stale, Commit::Stale));
     assert_eq!(rt; text.as_slice(), journal);
@@ -268,9 +268,9 @@ fn counts_once<R: AllocGlobal + Abort>(
 
 #[test]
 fn frames_that_were_taken_twice_count_once(rt: HostRuntime) -> Result<(), Fail> {
-    counts_once(&rt, M, "M", Extent::Frames, false, b"0 1\n".as_slice())?;
-    for extent in EXTENTS.iter() {
-        counts_once(&rt, SPIN, "Spin", *extent, true, b"0 1025\n".as_slice())?;
+    counts_once(&rt, M, "M", StretchKind::Frames, false, b"0 1\n".as_slice())?;
+    for kind in STRETCH_KINDS.iter() {
+        counts_once(&rt, SPIN, "Spin", *kind, true, b"0 1025\n".as_slice())?;
     }
     Ok(())
 }
@@ -288,7 +288,7 @@ fn commit_over<O: Origin>(
     alloc: Global,
     program: &Program,
     world: World,
-    extent: Extent,
+    kind: StretchKind,
     done: DoneSet,
 ) -> Result<(Commit, Vec<u8>), Fail>
     requires program { program.now ≡ O.program }
@@ -296,14 +296,14 @@ fn commit_over<O: Origin>(
     requires thread { 0 < length world.threads }
 {
     let mut book = Book::<O>::new(alloc, world, 10_000);
-    let _first = commit_next(alloc, program, &mut book, extent, false)?;
-    let made = make::<O>(alloc, program, &book, extent, done)?;
+    let _first = commit_next(alloc, program, &mut book, kind, false)?;
+    let made = make::<O>(alloc, program, &book, kind, done)?;
     let answer = commit(alloc, program, &mut book, made)?;
     Ok((answer, text_of(alloc, &book)?))
 }
 
 /// What the second stretch answers over classes that are initialized in another start alone, and the journal's text.
-fn commit_over_another_start(alloc: Global, extent: Extent) -> Result<(Commit, Vec<u8>), Fail> {
+fn commit_over_another_start(alloc: Global, kind: StretchKind) -> Result<(Commit, Vec<u8>), Fail> {
     let program = program_of(alloc, SQ)?;
     let both = start_with(alloc, &program, &["Main21"], &["Sq", "Main21"])?;
     let done = done_in::<Brand>(alloc, &program, both)?;
@@ -311,13 +311,13 @@ fn commit_over_another_start(alloc: Global, extent: Extent) -> Result<(Commit, V
     if world.thread_count() == 0 {
         return Err(Fail::new("no thread"));
     }
-    commit_over::<Brand>(alloc, &program, world, extent, done)
+    commit_over::<Brand>(alloc, &program, world, kind, done)
 }
 
 #[test]
 fn a_stretch_over_another_start_is_stale(rt: HostRuntime) -> Result<(), Fail> {
-    for extent in EXTENTS.iter() {
-        let (answer, text) = commit_over_another_start(rt.alloc(), *extent)?;
+    for kind in STRETCH_KINDS.iter() {
+        let (answer, text) = commit_over_another_start(rt.alloc(), *kind)?;
         assert!(rt; matches!(answer, Commit::Stale));
         assert_eq!(rt; text.as_slice(), b"0 1\n".as_slice());
     }

@@ -45,7 +45,7 @@ fn local_instructions_are_counted(rt: HostRuntime) -> Result<(), Fail> {
 struct Asked;
 
 impl Gate for Asked {
-    fn ready(&self, _who: u32, _job: u64, _turn: u32) -> bool {
+    fn ready(&self, _who: u32, _job: u64, _earlier: u32) -> bool {
         true
     }
 

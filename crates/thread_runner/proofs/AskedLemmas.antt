@@ -33,9 +33,9 @@ members_before (x ∷ xs) done c all =
 -- ---- how many are left to be asked for
 
 abbrev one : Bool → Bool → ℕ
-one marked asked = if marked && not asked then 1 else 0
+one flagged asked = if flagged && not asked then 1 else 0
 
--- how many classes of a set, whose first mark is that of class i, were not asked for
+-- how many classes of a set, whose first flag is that of class i, were not asked for
 abbrev pub unasked : List Bool → ℕ → List ℕ → ℕ
 unasked [] i asked = 0
 unasked (m ∷ ms) i asked = one m (has asked i) + unasked ms (suc i) asked

@@ -4,7 +4,7 @@ pub mod LocalLemmas
 pub mod WalkLemmas
 pub mod BookLemmas
 pub mod AloneLemmas
-pub mod MarkLemmas
+pub mod FlagLemmas
 pub mod SendingLemmas
 pub mod AnswerLemmas
 pub mod ReplayLemmas

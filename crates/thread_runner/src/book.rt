@@ -270,9 +270,9 @@ fn initialized_in(alloc: Global, world: &World, count: u32) -> Result<DoneSet, A
     ensures whole { IfOk result (λ done. (class : ℕ) → class < count
         → (world_of world.now).shared.states class ≡ Initialized → is_done done class ≡ true) }
 {
-    let mut marks = Vec::new(alloc);
+    let mut flags = Vec::new(alloc);
     for class in 0..count {
-        marks.push(world.is_initialized(class))?;
+        flags.push(world.is_initialized(class))?;
     }
-    Ok(DoneSet::of_marks(marks))
+    Ok(DoneSet::of_flags(flags))
 }

@@ -9,18 +9,18 @@ use std::marker::Model;
 /// A set of given classes, by number.
 #[derive(Drop)]
 pub struct DoneSet {
-    marks: Option<Vec<bool>>,
+    flags: Option<Vec<bool>>,
 }
 
 impl Model for DoneSet {
     ghost use Rattle.std.specs.Prelude.{Bool, List, ◌≤◌, length};
-    ghost use Rattle.thread_runner.specs.Local.{marks_in};
+    ghost use Rattle.thread_runner.specs.Local.{flags_in};
 
     ghost Value = { List Bool };
 
-    ghost view = { λ s. marks_in s.marks };
+    ghost view = { λ s. flags_in s.flags };
 
-    ghost invariant = { λ s. length (marks_in s.marks) ≤ 65535 };
+    ghost invariant = { λ s. length (flags_in s.flags) ≤ 65535 };
 }
 
 impl DoneSet {
@@ -28,15 +28,15 @@ impl DoneSet {
     pub fn none() -> DoneSet
         ensures { result ≡ [] }
     {
-        DoneSet { marks: None }
+        DoneSet { flags: None }
     }
 
-    /// The classes that are marked.
-    pub(crate) fn of_marks(marks: Vec<bool>) -> DoneSet
-        requires { length marks.items ≤ 65535 }
-        ensures { result ≡ marks.items }
+    /// The classes that are flagged.
+    pub(crate) fn of_flags(flags: Vec<bool>) -> DoneSet
+        requires { length flags.items ≤ 65535 }
+        ensures { result ≡ flags.items }
     {
-        DoneSet { marks: Some(marks) }
+        DoneSet { flags: Some(flags) }
     }
 
     /// A copy of the set.
@@ -46,9 +46,9 @@ impl DoneSet {
     pub(crate) fn copy(&self, alloc: Global) -> Result<DoneSet, AllocError>
         ensures { IfOk result (λ s. s ≡ self.now) }
     {
-        match &self.marks {
-            Some(marks) => match Vec::from_slice(alloc, marks.as_slice()) {
-                Ok(marks) => Ok(DoneSet { marks: Some(marks) }),
+        match &self.flags {
+            Some(flags) => match Vec::from_slice(alloc, flags.as_slice()) {
+                Ok(flags) => Ok(DoneSet { flags: Some(flags) }),
                 Err(error) => Err(error),
             },
             None => Ok(DoneSet::none()),
@@ -59,8 +59,8 @@ impl DoneSet {
     pub(crate) fn len(&self) -> u32
         ensures { (c : ℕ) → is_done self.now c ≡ true → c < result }
     {
-        match &self.marks {
-            Some(marks) => marks.len() as u32,
+        match &self.flags {
+            Some(flags) => flags.len() as u32,
             None => 0,
         }
     }
@@ -69,9 +69,9 @@ impl DoneSet {
     pub fn has(&self, class: u32) -> bool
         ensures { result ≡ is_done self.now class }
     {
-        match &self.marks {
-            Some(marks) => match marks.get(class as usize) {
-                Some(mark) => *mark,
+        match &self.flags {
+            Some(flags) => match flags.get(class as usize) {
+                Some(flag) => *flag,
                 None => false,
             },
             None => false,

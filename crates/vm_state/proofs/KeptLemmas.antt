@@ -7,7 +7,7 @@ use Rattle.std.specs.Prelude.{IsSome, option_map}
 use Rattle.std.specs.List.{range_with_len}
 use Rattle.std.specs.List.Sorted.{IsNonDecreasingBy}
 use Rattle.std.proofs.lemmas.List.{length_push, append-nil}
-use Rattle.std.proofs.lemmas.Option.{get_or_from_slice_get, slice_get-get_or, slice_get_past, slice_get_within}
+use Rattle.std.proofs.lemmas.Option.{get_or_from_slice_get, slice_get-get_or}
 use Rattle.vm_state.specs.declared.object.Object.{Object}
 use Rattle.vm_state.specs.declared.object.Monitor.{Monitor}
 use Rattle.vm_state.specs.declared.object.Monitor.TheVariants.{Free}
@@ -415,6 +415,7 @@ pub record IsHeldChanged (w : List (ℕ × Monitor)) (later : List ℕ) (ks new 
     (change : Object → Object) : Type 0 where
   pub ascends : AscendsFrom 0 (objects_of w (numbers_in later new) new) count
   pub fits : length later ≤ length new
+  pub same : length new ≡ length ks
   pub pool : pool_by (record { count = count; objects = objects_of w (numbers_in later new) new })
       ≡ with_object (pool_by (record { count = count; objects = objects_of w (numbers_in later ks) ks })) n
       (option_map change (object_in (objects_of w (numbers_in later ks) ks) n))
@@ -446,6 +447,7 @@ held_changed w later ks count place n change held new fits up some was is =
     record {
       ascends = subst (λ (all : List (ℕ × Object)). AscendsFrom 0 all count) (sym objects) changed.0;
       fits = omega (arith, fits, long);
+      same = long;
       pool = ap (λ (all : List (ℕ × Object)). pool_by (record { count = count; objects = all })) objects ∙ changed.1;
     }
 
@@ -561,36 +563,11 @@ pub objects_none : (w : List (ℕ × Monitor)) (ns : List ℕ) → objects_of w 
 objects_none w [] = refl
 objects_none w (n ∷ ns) = refl
 
--- ---- where no number is left out
+-- ---- the first ones
 
-all_plain : (later : List ℕ) (ks : List Kept) (n : ℕ) → length later ≡ 0 → n < length ks →
-    slice_get (numbers_in later ks) n ≡ Some n
-all_plain later ks n none inside = number_before (length ks - length later) n later (omega (arith, none, inside))
-
-pub direct_there : (w : List (ℕ × Monitor)) (later : List ℕ) (ks : List Kept) (n : ℕ) → length later ≡ 0 →
-    length later ≤ length ks → n < length ks → IsSome (object_at_place (objects_of w (numbers_in later ks) ks) n n)
-direct_there w later ks n none fits inside =
-    is_there w (numbers_in later ks) ks n n (length_numbers later ks fits) (all_plain later ks n none inside)
-
-pub direct_none : (w : List (ℕ × Monitor)) (later : List ℕ) (ks : List Kept) (count n : ℕ) → length later ≡ 0 →
-    length later ≤ length ks → AscendsFrom 0 (objects_of w (numbers_in later ks) ks) count → length ks ≤ n →
-    object_in (objects_of w (numbers_in later ks) ks) n ≡ None
-direct_none w later ks count n none fits up past =
-    let all : length (numbers_in later ks) ≡ length ks = length_numbers later ks fits in
-    none_found w (numbers_in later ks) ks count n n all up
-    (λ i d before inside.
-    let is = get_before (length ks - length later) i d later (omega (arith, none, inside, all)) in
-    omega (arith, is, before))
-    (λ d inside. absurd (omega (arith, inside, all, past)))
-    (λ m is. absurd (omega (arith, slice_get_within (numbers_in later ks) n m is, all, past)))
-
--- where no number is left out, what stands at a number's place is what is held of it, or nothing
-pub direct_kept : (w : List (ℕ × Monitor)) (later : List ℕ) (ks : List Kept) (count n : ℕ) → length later ≡ 0 →
-    length later ≤ length ks → AscendsFrom 0 (objects_of w (numbers_in later ks) ks) count →
-    slice_get ks n ≡ option_map kept_of (object_in (objects_of w (numbers_in later ks) ks) n)
-direct_kept w later ks count n none fits up = elim (below_or_not n (length ks)) [
-  | inl inside ↦
-      found_kept w (numbers_in later ks) ks count n n up (direct_there w later ks n none fits inside)
-  | inr past ↦
-      slice_get_past ks n past ∙ ap (option_map kept_of) (sym (direct_none w later ks count n none fits up past))
-]
+-- what lies at the place of its number
+pub plain_there : (w : List (ℕ × Monitor)) (later : List ℕ) (ks : List Kept) (n : ℕ) → length later ≤ length ks →
+    n < length ks - length later → IsSome (object_at_place (objects_of w (numbers_in later ks) ks) n n)
+plain_there w later ks n fits inside =
+    is_there w (numbers_in later ks) ks n n (length_numbers later ks fits)
+    (number_before (length ks - length later) n later inside)

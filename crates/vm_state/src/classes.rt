@@ -55,6 +55,20 @@ impl ClassState {
             ClassState::Erroneous => Usability::Broken,
         }
     }
+
+    /// Whether the class is ready for a thread: mostly it is initialized, which is asked first.
+    #[inline(always)]
+    fn is_ready(&self, thread: u32) -> bool
+        ensures { result ≡ true → usable thread self.now ≡ Usability.Ready }
+    {
+        if let ClassState::Initialized = self {
+            return true;
+        }
+        if let ClassState::InProgress(owner) = self {
+            return thread == *owner;
+        }
+        false
+    }
 }
 
 /// A static field as its class declares it (JVMS 4.5).
@@ -267,6 +281,18 @@ impl Classes {
         match self.areas.get(class as usize) {
             Some(area) => area.state,
             None => ClassState::Uninitialized,
+        }
+    }
+
+    /// Whether a class is ready for a thread; not where it must be initialized first, by this thread or another.
+    #[tactic(auto, unfolding(crate::specs::Statics::states_of))]
+    #[inline(always)]
+    pub fn is_ready(&self, class: u32, thread: u32) -> bool
+        ensures { result ≡ true → usable thread (states_of self.now class) ≡ Usability.Ready }
+    {
+        match self.areas.get(class as usize) {
+            Some(area) => area.state.is_ready(thread),
+            None => false,
         }
     }
 

@@ -24,17 +24,18 @@ use std::marker::Model;
 use std::mem;
 
 /// The objects of one maker, in the order of their numbers; and how many objects it made. Numbers may be left out:
-/// those of the first objects are 0, 1, 2 and so on, the others stand beside.
+/// those of the `plain` first objects are 0, 1, 2 and so on, the others stand beside.
 #[derive(Drop)]
 pub struct Pool {
     count: u64,
+    plain: usize,
     later: Vec<u64>,
     kept: Vec<Kept>,
     owners: Owners,
 }
 
 impl Model for Pool {
-    ghost use Rattle.std.specs.Prelude.{◌≡◌, ℕ, ◌≤◌, length};
+    ghost use Rattle.std.specs.Prelude.{◌≡◌, ℕ, ◌-◌, ◌≤◌, length};
     ghost use Rattle.vm_state.specs.declared.object.Monitor.TheVariants.{Free};
     ghost use Rattle.vm_state.specs.Objects.{HeldObjects, AscendsFrom};
     ghost use Rattle.vm_state.specs.steps.Objects.{numbers_in, objects_of};
@@ -50,7 +51,8 @@ impl Model for Pool {
     ghost invariant = { λ s.
         AscendsFrom 0 (objects_of s.owners (numbers_in s.later.items s.kept.items) s.kept.items) s.count
         × (length s.later.items ≤ length s.kept.items)
-        × ((k : ℕ) → s.count ≤ k → monitor_in s.owners k ≡ Free) };
+        × ((k : ℕ) → s.count ≤ k → monitor_in s.owners k ≡ Free)
+        × (s.plain ≡ length s.kept.items - length s.later.items) };
 }
 
 /// The number at a place: of the first `plain` it is the place, of the others it stands in a list.
@@ -220,6 +222,7 @@ impl Pool {
     {
         Pool {
             count,
+            plain: 0,
             later: Vec::new(alloc),
             kept: Vec::new(alloc),
             owners: Owners::none(alloc),
@@ -239,6 +242,7 @@ impl Pool {
         let owners = self.owners.copy(alloc)?;
         Ok(Pool {
             count: self.count,
+            plain: self.plain,
             later,
             kept,
             owners,
@@ -281,11 +285,11 @@ impl Pool {
     {
         let Pool {
             count,
+            plain,
             later,
             kept,
             owners,
         } = self;
-        let plain = kept.len() - later.len();
         let mut objects = Vec::with_capacity(alloc, kept.len())?;
         match add_objects(plain, later.as_slice(), kept, &owners, &mut objects) {
             Ok(()) => Ok((count, objects)),
@@ -307,8 +311,7 @@ impl Pool {
         ensures { option_map (λ o. (o.0, o.1.now)) result
             ≡ option_map numbered_kept (slice_get self.now.objects place) }
     {
-        let plain = self.kept.len() - self.later.len();
-        match number_at(plain, self.later.as_slice(), place) {
+        match number_at(self.plain, self.later.as_slice(), place) {
             Some(number) => match kept_at(self.kept.as_slice(), place) {
                 Some(kept) => Some((number, kept)),
                 None => None,
@@ -317,21 +320,16 @@ impl Pool {
         }
     }
 
-    /// The place of the object of a number, if it is held. Where no number is left out it is the number.
+    /// The place of the object of a number, if it is held. Mostly it is the number.
     #[inline(always)]
     pub fn place(&self, number: u64) -> Option<usize>
         ensures held { IfSome result (λ place. IsSome (object_at_place self.now.objects place number)) }
         ensures none { IfNone result (object_in self.now.objects number ≡ None) }
     {
-        if self.later.is_empty() {
-            if number < self.kept.len() as u64 {
-                Some(number as usize)
-            } else {
-                None
-            }
-        } else {
-            self.searched_place(number)
+        if number < self.plain as u64 {
+            return Some(number as usize);
         }
+        self.searched_place(number)
     }
 
     /// The place of the object of a number, found by halving the pool.
@@ -341,9 +339,8 @@ impl Pool {
         ensures none { IfNone result (object_in self.now.objects number ≡ None) }
     {
         let later = self.later.as_slice();
-        let plain = self.kept.len() - later.len();
-        let place = place_of(plain, later, number);
-        match number_at(plain, later, place) {
+        let place = place_of(self.plain, later, number);
+        match number_at(self.plain, later, place) {
             Some(found) => { if found == number { Some(place) } else { None } }
             None => None,
         }
@@ -366,11 +363,8 @@ impl Pool {
     fn kept(&self, number: u64) -> Option<&Kept>
         ensures { option_copied result ≡ option_map kept_of (object_in self.now.objects number) }
     {
-        if self.later.is_empty() {
-            return kept_at(self.kept.as_slice(), number as usize);
-        }
-        match self.searched_place(number) {
-            Some(place) => kept_at(self.kept.as_slice(), place),
+        match self.place(number) {
+            Some(place) => Some(&self.kept[place]),
             None => None,
         }
     }
@@ -492,7 +486,9 @@ impl Pool {
             class: KeptClass::of(class),
             slots,
         };
-        push_kept(&mut self.later, &mut self.kept, number, kept)
+        push_kept(&mut self.later, &mut self.kept, number, kept)?;
+        self.plain = self.kept.len() - self.later.len();
+        Ok(())
     }
 
     /// One more object, of the next number, which it answers. Where memory is refused nothing changes.
@@ -511,6 +507,7 @@ impl Pool {
             slots,
         };
         push_kept(&mut self.later, &mut self.kept, number, kept)?;
+        self.plain = self.kept.len() - self.later.len();
         self.count = count;
         Ok(number)
     }

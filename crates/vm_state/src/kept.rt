@@ -38,6 +38,8 @@ pub enum Expected {
 enum ClassWord {
     Given(u32),
     BuiltIn(BuiltIn),
+    /// The arrays of one dimension of these numbers.
+    Numbers(Primitive),
     OfPrimitive(u8, Primitive),
     OfGiven(u8, u32),
     OfBuiltIn(u8, BuiltIn),
@@ -95,19 +97,30 @@ fn same_primitive(left: Primitive, right: Primitive) -> bool
     left == right
 }
 
+/// A class of arrays of numbers as it is kept.
+fn numbers_word(dimensions: u8, primitive: Primitive) -> ClassWord
+    ensures { class_of_word result ≡ array_of dimensions (element_of primitive) }
+{
+    if dimensions == 1 {
+        ClassWord::Numbers(primitive)
+    } else {
+        ClassWord::OfPrimitive(dimensions, primitive)
+    }
+}
+
 /// An array class as it is kept.
 fn array_word(dimensions: u8, element: ElementType) -> ClassWord
     ensures { class_of_word result ≡ array_of dimensions element }
 {
     match element {
-        ElementType::Boolean => ClassWord::OfPrimitive(dimensions, Primitive::Boolean),
-        ElementType::Byte => ClassWord::OfPrimitive(dimensions, Primitive::Byte),
-        ElementType::Char => ClassWord::OfPrimitive(dimensions, Primitive::Char),
-        ElementType::Short => ClassWord::OfPrimitive(dimensions, Primitive::Short),
-        ElementType::Int => ClassWord::OfPrimitive(dimensions, Primitive::Int),
-        ElementType::Long => ClassWord::OfPrimitive(dimensions, Primitive::Long),
-        ElementType::Float => ClassWord::OfPrimitive(dimensions, Primitive::Float),
-        ElementType::Double => ClassWord::OfPrimitive(dimensions, Primitive::Double),
+        ElementType::Boolean => numbers_word(dimensions, Primitive::Boolean),
+        ElementType::Byte => numbers_word(dimensions, Primitive::Byte),
+        ElementType::Char => numbers_word(dimensions, Primitive::Char),
+        ElementType::Short => numbers_word(dimensions, Primitive::Short),
+        ElementType::Int => numbers_word(dimensions, Primitive::Int),
+        ElementType::Long => numbers_word(dimensions, Primitive::Long),
+        ElementType::Float => numbers_word(dimensions, Primitive::Float),
+        ElementType::Double => numbers_word(dimensions, Primitive::Double),
         ElementType::Given(class) => ClassWord::OfGiven(dimensions, class),
         ElementType::BuiltIn(class) => ClassWord::OfBuiltIn(dimensions, class),
         ElementType::Unknown(name) => ClassWord::OfUnknown(dimensions, name),
@@ -151,7 +164,7 @@ impl KeptClass {
         ensures { result ≡ true → self.now ≡ array_of 1 (element_of primitive) }
     {
         match self.word {
-            ClassWord::OfPrimitive(1, held) => same_primitive(held, primitive),
+            ClassWord::Numbers(held) => same_primitive(held, primitive),
             _ => false,
         }
     }
@@ -173,7 +186,7 @@ impl KeptClass {
         ensures { result ≡ has_references self.now }
     {
         match self.word {
-            ClassWord::Given(_) | ClassWord::BuiltIn(_) => false,
+            ClassWord::Given(_) | ClassWord::BuiltIn(_) | ClassWord::Numbers(_) => false,
             ClassWord::OfPrimitive(dimensions, _) => dimensions > 1,
             ClassWord::OfGiven(_, _) | ClassWord::OfBuiltIn(_, _) | ClassWord::OfUnknown(_, _) => {
                 true
@@ -189,6 +202,7 @@ impl KeptClass {
         match self.word {
             ClassWord::Given(class) => ClassId::Given(class),
             ClassWord::BuiltIn(class) => ClassId::BuiltIn(class),
+            ClassWord::Numbers(primitive) => array_of(1, element_of(primitive)),
             ClassWord::OfPrimitive(dimensions, primitive) => {
                 array_of(dimensions, element_of(primitive))
             }

@@ -117,6 +117,16 @@ impl Slots {
         self.elements.brief_at(slot)
     }
 
+    /// How many there are, and the reference in a slot, if it is null or leads to an object. None where the slots are
+    /// held otherwise than mostly those are that hold references, or there is no such slot.
+    #[inline(always)]
+    pub fn reference_at(&self, slot: usize) -> Option<(usize, Value)>
+        ensures count { IfSome result (λ r. r.0 ≡ length self.now) }
+        ensures value { IfSome result (λ r. slice_get self.now slot ≡ Some r.1) }
+    {
+        self.elements.reference_at(slot)
+    }
+
     /// All of them, where they are held as bytes: those of an array of bytes or of booleans.
     #[inline(always)]
     pub fn as_bytes(&self) -> Option<&[i8]>

@@ -98,7 +98,54 @@ fn counted_at(briefs: &[Brief], slot: usize) -> Option<(usize, Value)>
     }
 }
 
+/// The reference that this stands for, where it is null or leads to an object.
+#[inline(always)]
+fn reference_of(brief: Brief) -> Option<Value>
+    ensures { IfSome result (λ v. brief_value brief ≡ v) }
+{
+    if let Brief::OfThread(thread, number) = brief {
+        return Some(Value::OfThread(u32::from(thread), u64::from(number)));
+    }
+    if let Brief::OfClass(class, number) = brief {
+        return Some(Value::OfClass(u32::from(class), u64::from(number)));
+    }
+    if let Brief::Null = brief {
+        return Some(Value::Null);
+    }
+    None
+}
+
+/// How many there are of what is held in 8 bytes each, and the reference at a slot.
+#[inline(always)]
+fn counted_reference(briefs: &[Brief], slot: usize) -> Option<(usize, Value)>
+    ensures count { IfSome result (λ r. r.0 ≡ length (map brief_value briefs.now)) }
+    ensures value { IfSome result (λ r. slice_get (map brief_value briefs.now) slot ≡ Some r.1) }
+{
+    match briefs.get(slot) {
+        Some(brief) => match reference_of(*brief) {
+            Some(reference) => Some((briefs.len(), reference)),
+            None => None,
+        },
+        None => None,
+    }
+}
+
 impl Elements {
+    /// As [`brief_at`](Elements::brief_at), quick where the value is null or leads to an object. None of another value.
+    #[inline(always)]
+    pub(crate) fn reference_at(&self, slot: usize) -> Option<(usize, Value)>
+        ensures count { IfSome result (λ r. r.0 ≡ length (values_of self.now)) }
+        ensures value { IfSome result (λ r. slice_get (values_of self.now) slot ≡ Some r.1) }
+    {
+        if let Elements::Briefs(briefs) = self {
+            return counted_reference(briefs.as_slice(), slot);
+        }
+        if let Elements::Few(few, _) = self {
+            return counted_reference(few.as_slice(), slot);
+        }
+        None
+    }
+
     /// How many there are, and the value at a slot. None where they are held as numbers of one type, or there is no
     /// such slot.
     #[inline(always)]
@@ -106,15 +153,15 @@ impl Elements {
         ensures count { IfSome result (λ r. r.0 ≡ length (values_of self.now)) }
         ensures value { IfSome result (λ r. slice_get (values_of self.now) slot ≡ Some r.1) }
     {
-        // One after another: a `match` on so many kinds becomes a table of jumps.
-        if let Elements::Few(few, _) = self {
-            return counted_at(few.as_slice(), slot);
+        // One after another: a `match` on so many kinds becomes a table of jumps. The last is compared first.
+        if let Elements::Values(values) = self {
+            return counted_value(values.as_slice(), slot);
         }
         if let Elements::Briefs(briefs) = self {
             return counted_at(briefs.as_slice(), slot);
         }
-        if let Elements::Values(values) = self {
-            return counted_value(values.as_slice(), slot);
+        if let Elements::Few(few, _) = self {
+            return counted_at(few.as_slice(), slot);
         }
         None
     }
@@ -248,14 +295,14 @@ impl Elements {
         ensures some { IfSome result (λ n. values_of self.new ≡ slice_set (values_of self.old) slot value) }
         ensures none { IfNone result (self.new ≡ self.old) }
     {
-        if let Elements::Few(few, _) = self {
-            return put_few_counted(few, slot, value);
+        if let Elements::Values(values) = self {
+            return put_value(values, slot, value);
         }
         if let Elements::Briefs(briefs) = self {
             return put_counted(briefs, slot, value);
         }
-        if let Elements::Values(values) = self {
-            return put_value(values, slot, value);
+        if let Elements::Few(few, _) = self {
+            return put_few_counted(few, slot, value);
         }
         None
     }

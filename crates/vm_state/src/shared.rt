@@ -1,12 +1,13 @@
 //! What all threads share.
 
 ghost use Rattle.std.specs.Prelude.{◌≡◌, List, IfOk, IfSome, IfNone, IsOk, OnOk, OnErr, Some, option_copied};
-ghost use Rattle.std.specs.Prelude.{option_map, ◌<◌, ◌+◌, ◌^◌, length};
+ghost use Rattle.std.specs.Prelude.{option_map, ◌<◌, ◌+◌, ◌^◌, length, true};
 ghost use Rattle.vm_state.specs.Output.{Print};
 ghost use Rattle.vm_state.specs.SharedState.{object_of, class_at, form_at, pool_of, set_pool, slots_at};
 ghost use Rattle.vm_state.specs.SharedState.{monitor_of, set_region, with_monitor, with_slot};
 ghost use Rattle.vm_state.specs.steps.ClassWords.{expected_class};
-ghost use Rattle.vm_state.specs.Statics.{IsPlaced};
+ghost use Rattle.vm_state.specs.Statics.{IsPlaced, usable};
+ghost use Rattle.vm_state.specs.declared.classes.Usability.{Usability};
 ghost use Rattle.vm_state.specs.Shares.{shared_of, SharesTheSame, SetsField, SetsState, Begins, Makes, IsNextName};
 ghost use Rattle.vm_state.specs.Shares.{Initializes, region_by, empty_region};
 ghost use Rattle.vm_state.specs.Pools.{IsPoolBy};
@@ -53,6 +54,16 @@ impl Shared {
         ensures { (p : List Print) → result ≡ (shared_of self.now p).states class }
     {
         self.classes.state(class)
+    }
+
+    /// Whether a class is ready for a thread; not where it must be initialized first, by this thread or another.
+    #[tactic(auto, unfolding(crate::specs::Shares::shared_of))]
+    #[inline(always)]
+    pub fn is_ready(&self, class: u32, thread: u32) -> bool
+        ensures { (p : List Print) → result ≡ true → usable thread ((shared_of self.now p).states class)
+            ≡ Usability.Ready }
+    {
+        self.classes.is_ready(class, thread)
     }
 
     /// The value of a static field.

@@ -17,13 +17,13 @@ use Rattle.wave_scheduler.specs.Settled.{Outcome, Settled, below}
 use Rattle.wave_scheduler.specs.Outcomes.{settled_of, AreJudged}
 use Rattle.wave_scheduler.specs.steps.Judged.{FollowVerdicts}
 use Rattle.wave_scheduler.specs.steps.Waves.{AreTriedBelow}
-use Rattle.wave_scheduler.specs.steps.WaveRows.{AreRows}
+use Rattle.wave_scheduler.specs.steps.WaveMembers.{AreMembersOfAll}
 use Rattle.wave_scheduler.specs.steps.Finding.{HasRun, IsFoundOf}
 use Rattle.wave_scheduler.specs.steps.Plans.{GivesFirst}
 use Rattle.wave_scheduler.proofs.FindingLemmas.{region_seen}
 use Rattle.wave_scheduler.proofs.SettledLemmas.{from_below}
 use Rattle.wave_scheduler.proofs.TriesLemmas.{waves_end_lem}
-use Rattle.wave_scheduler.proofs.WaveRowsLemmas.{waves_low}
+use Rattle.wave_scheduler.proofs.WaveMembersLemmas.{waves_low}
 
 -- the regions of lower waves are among those that are lent before a wave
 pub lent_has : (old : Answer) (n : ℕ) (regions : List (Option Held)) → old.regions ≡ regions → (d : ℕ) (r : Region)
@@ -40,11 +40,11 @@ run_by P env budget n c (found.Settled region) o held (cost, settles, small) (so
 run_by P env budget n c (found.Refused why) o held stops (so, none) = rw none (reason_of why, so, stops)
 
 -- once all waves are tried and each class is told what it depends on, all follows the verdicts
-pub all_follow : (P : Tables) (budget : ℕ) (judged : List Verdict) (rows : List (Vec ℕ Global)) (old new : Settled)
-    → AreJudged P judged → AreRows judged (rows_of rows) → AreTriedBelow P budget judged (length rows) old
+pub all_follow : (P : Tables) (budget : ℕ) (judged : List Verdict) (waves : List (Vec ℕ Global)) (old new : Settled)
+    → AreJudged P judged → AreMembersOfAll judged (rows_of waves) → AreTriedBelow P budget judged (length waves) old
     → GivesFirst P old new → FollowVerdicts P budget judged new
-all_follow P budget judged rows old new (forced, are) rows_are tried (first, (marks, refused, firsts), told) =
-    let below : AreTriedBelow P budget judged (length (rows_of rows)) old =
-    subst (λ (n : ℕ). AreTriedBelow P budget judged n old) (sym (length-rows_of rows)) tried in
-    waves_end_lem P forced budget judged (length (rows_of rows)) old new marks first are below
-    (λ c m at. waves_low judged (rows_of rows) rows_are c m at) refused firsts told
+all_follow P budget judged waves old new (forced, are) members_are tried (first, (flags, refused, firsts), told) =
+    let below : AreTriedBelow P budget judged (length (rows_of waves)) old =
+    subst (λ (n : ℕ). AreTriedBelow P budget judged n old) (sym (length-rows_of waves)) tried in
+    waves_end_lem P forced budget judged (length (rows_of waves)) old new flags first are below
+    (λ c m at. waves_low judged (rows_of waves) members_are c m at) refused firsts told

@@ -103,10 +103,10 @@ index_map : {A B : Type 0} (f : A → B) (xs : List A) (c : ℕ) (d : B) (x : A)
 index_map f xs c d x at =
     get_or_from_slice_get (map f xs) c (f x) d (slice_get-map f xs c ∙ ap (option_map f) at)
 
-pub marks_are : (P : Tables) (outs : List Verdict) (rs : List (Option Held)) (marks : List Bool)
-    → length outs ≡ length P.classes → marks ≡ map is_refused outs
-    → AreRefusedIn P (answer outs rs) marks
-marks_are P outs rs marks count are = rw are record {
+pub flags_are : (P : Tables) (outs : List Verdict) (rs : List (Option Held)) (flags : List Bool)
+    → length outs ≡ length P.classes → flags ≡ map is_refused outs
+    → AreRefusedIn P (answer outs rs) flags
+flags_are P outs rs flags count are = rw are record {
   count = length-map outs is_refused ∙ count;
   each = λ c low.
       let (o, at) = one_of outs c (omega (arith, count)) in

@@ -15,7 +15,7 @@ pub mod FindingLemmas
 pub mod WholesLemmas
 pub mod SpreadingLemmas
 pub mod TaintedLemmas
-pub mod WaveRowsLemmas
+pub mod WaveMembersLemmas
 pub mod TryingLemmas
 pub mod CrewsLemmas
 pub mod PlansLemmas

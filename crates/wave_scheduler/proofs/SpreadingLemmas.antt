@@ -13,7 +13,7 @@ use Rattle.graph.specs.steps.Adds.{Adds}
 use Rattle.graph.proofs.AddsLemmas.{push_same}
 use Rattle.wave_scheduler.specs.steps.Tainting.{IsClosedIn, AddsReached}
 
--- what was seen before is there, and what a vertex reaches; the first so many have what their rows have
+-- what was seen before is there, and what a vertex reaches; the first so many have what their successors have
 pub record Spreading (graph : Rows) (from : ℕ) (old items : List ℕ) (next : ℕ) : Type 0 where
   pub starts : Contains items from
   pub keeps : (x : ℕ) → Contains old x → Contains items x
@@ -21,8 +21,8 @@ pub record Spreading (graph : Rows) (from : ℕ) (old items : List ℕ) (next : 
   pub closed : (k : ℕ) → k < next → All (Contains items) (successors_of graph (slice_index items k))
   pub up_to : next ≤ length items
 
-all_in : (row items : List ℕ) → ((x : ℕ) → Contains row x → Contains items x) → All (Contains items) row
-all_in row items keeps = All-weaker (Contains row) (Contains items) keeps row (All-contains_itself row)
+all_in : (members items : List ℕ) → ((x : ℕ) → Contains members x → Contains items x) → All (Contains items) members
+all_in members items keeps = All-weaker (Contains members) (Contains items) keeps members (All-contains_itself members)
 
 at_place : (items : List ℕ) (k : ℕ) → k < length items → Contains items (slice_index items k)
 at_place items k small = All-get_or (Contains items) items k 0 small (All-contains_itself items)

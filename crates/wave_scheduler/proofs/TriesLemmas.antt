@@ -86,8 +86,8 @@ waves_go_on_lem P forced budget judged n old new are tried tries =
     next_wave P forced budget judged n old new are tried tries
 
 pub waves_end_lem : WavesEnd
-waves_end_lem P forced budget judged n old new marks first are tried all refused firsts told =
-    last_wave P forced budget judged n old new marks first are tried all refused firsts told
+waves_end_lem P forced budget judged n old new flags first are tried all refused firsts told =
+    last_wave P forced budget judged n old new flags first are tried all refused firsts told
 
 pub tries_decide_lem : TriesDecide
 tries_decide_lem P forced budget judged n S is fits within are tried c at accepted env more =

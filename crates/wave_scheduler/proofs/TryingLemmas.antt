@@ -28,7 +28,7 @@ use Rattle.wave_scheduler.specs.steps.Judged.{UsesAccepted}
 use Rattle.wave_scheduler.specs.steps.Waves.{IsTriedIn, AreTriedBelow, TriesWave, Decides}
 use Rattle.wave_scheduler.specs.steps.Finding.{IsFound, SetsClass, TriesThese}
 use Rattle.wave_scheduler.specs.steps.Tainting.{vertex_in, IsSeen, IsTaint, TriesClass, AreTainted}
-use Rattle.wave_scheduler.specs.steps.WaveRows.{IsRow}
+use Rattle.wave_scheduler.specs.steps.WaveMembers.{AreMembers}
 use Rattle.wave_scheduler.proofs.SettledLemmas.{from_below}
 use Rattle.wave_scheduler.proofs.WavesLemmas.{had_wave, one_before}
 use Rattle.wave_scheduler.proofs.TriesLemmas.{tries_decide_lem}
@@ -50,13 +50,14 @@ module _ (P : Tables) (forced : List Bool) (budget : ℕ) (judged : List Verdict
     others = λ c never. (refl, refl);
   }
 
-  pub tries_all : (row : List ℕ) (new : Settled) → IsRow judged n row → TriesThese P budget judged n row old new
+  pub tries_all : (members : List ℕ) (new : Settled) → AreMembers judged n members → TriesThese P budget judged n
+      members old new
       → TriesWave P budget judged n old new
-  tries_all row new rows tries = record {
+  tries_all members new of_wave tries = record {
     count = tries.count;
     regions = tries.regions;
-    here = λ c o wave at. tries.here c o (rows.all c wave) at;
-    others = λ c never. tries.others c (λ there. never (rows.has c there));
+    here = λ c o wave at. tries.here c o (of_wave.all c wave) at;
+    others = λ c never. tries.others c (λ there. never (of_wave.has c there));
   }
 
   module _ (done : List ℕ) (cur : Settled) (t : Tainted) (tries : TriesThese P budget judged n done old cur)
@@ -192,18 +193,22 @@ module _ (P : Tables) (forced : List Bool) (budget : ℕ) (judged : List Verdict
                   (λ e other. (sets.others e other).0) one.spreads,
             )
 
--- ---- by the places of a row
+-- ---- by the places of a wave's classes
 
-pub next_done : (row : List ℕ) (i : ℕ) → i < length row → take (i + 1) row ≡ take i row ++ slice_index row i ∷ []
-next_done row i low = take_more row i 0 low
+pub next_done : (members : List ℕ) (i : ℕ) → i < length members → take (i + 1) members ≡ take i members ++ slice_index
+    members i ∷ []
+next_done members i low = take_more members i 0 low
 
-pub wave_at : (judged : List Verdict) (n : ℕ) (row : List ℕ) (i : ℕ) → IsRow judged n row → i < length row
-    → before.HasWave judged (slice_index row i) n
-wave_at judged n row i rows low =
-    rows.has (slice_index row i) (All-get_or (Contains row) row i 0 low (All-contains_itself row))
+pub wave_at : (judged : List Verdict) (n : ℕ) (members : List ℕ) (i : ℕ) → AreMembers judged n members → i < length
+    members
+    → before.HasWave judged (slice_index members i) n
+wave_at judged n members i of_wave low =
+    of_wave.has (slice_index members i) (All-get_or (Contains members) members i 0 low (All-contains_itself members))
 
-pub low_at : (P : Tables) (forced : List Bool) (judged : List Verdict) (n : ℕ) (row : List ℕ) (i : ℕ)
-    → before.AreVerdicts P forced judged → IsRow judged n row → i < length row → slice_index row i < length P.classes
-low_at P forced judged n row i are rows low =
-    let small = slice_get_within judged (slice_index row i) (verdicts.Wave n) (wave_at judged n row i rows low) in
+pub low_at : (P : Tables) (forced : List Bool) (judged : List Verdict) (n : ℕ) (members : List ℕ) (i : ℕ)
+    → before.AreVerdicts P forced judged → AreMembers judged n members → i < length members → slice_index members i <
+    length P.classes
+low_at P forced judged n members i are of_wave low =
+    let small = slice_get_within judged (slice_index members i) (verdicts.Wave n) (wave_at judged n members i of_wave
+    low) in
     omega (arith, are.count)

@@ -65,10 +65,10 @@ module _ (P : Tables) (forced : List Bool) (budget : ℕ) (judged : List Verdict
       by (verdicts.Refused r) was = absurd (never r was (tried.refused d r (Wave k) was at))
 
 module _ (P : Tables) (forced : List Bool) (budget : ℕ) (judged : List Verdict) (n : ℕ) (S T : Settled)
-    (marks : List Bool) (first : List (Option ℕ)) (are : before.AreVerdicts P forced judged)
+    (flags : List Bool) (first : List (Option ℕ)) (are : before.AreVerdicts P forced judged)
     (tried : AreTriedBelow P budget judged n S)
     (all : (c m : ℕ) → before.HasWave judged c m → m < n)
-    (refused : AreRefusedIn P S marks) (firsts : AreFirstRefused P marks first) (told : HasFirst first S T) where
+    (refused : AreRefusedIn P S flags) (firsts : AreFirstRefused P flags first) (told : HasFirst first S T) where
   -- ---- the same is accepted, with the same at hand
 
   still_accepted : (c : ℕ) → IsAccepted S c → IsAccepted T c
@@ -114,10 +114,10 @@ module _ (P : Tables) (forced : List Bool) (budget : ℕ) (judged : List Verdict
       → (e : ℕ) × (slice_index_or first c None ≡ Some e) × IsFirstRefused P (IsAccepted T) c e
   first_told c d low used never = by (slice_index_or first c None) refl (firsts.each c low)
     where
-      marked : (e : ℕ) → IsUse P c e → (¬ IsAccepted S e) → IsRefusedUse P marks c e
+      marked : (e : ℕ) → IsUse P c e → (¬ IsAccepted S e) → IsRefusedUse P flags c e
       marked e uses lacks = (uses, (refused.each e uses.0).1 lacks)
 
-      by : (o : Option ℕ) → slice_index_or first c None ≡ o → IsFirst (IsRefusedUse P marks c) o
+      by : (o : Option ℕ) → slice_index_or first c None ≡ o → IsFirst (IsRefusedUse P flags c) o
           → (e : ℕ) × (slice_index_or first c None ≡ Some e) × IsFirstRefused P (IsAccepted T) c e
       by None at none = absurd (none d (marked d used never))
       by (Some e) at ((uses, mark), least) = (

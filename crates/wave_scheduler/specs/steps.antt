@@ -2,6 +2,6 @@ pub mod Judged
 pub mod Waves
 pub mod Finding
 pub mod Tainting
-pub mod WaveRows
+pub mod WaveMembers
 pub mod Crews
 pub mod Plans

@@ -21,7 +21,7 @@ pub(crate) struct Plan {
     /// The components of its calls.
     pub calls: Components,
     /// The classes of each wave.
-    pub rows: Vec<Vec<u32>>,
+    pub waves: Vec<Vec<u32>>,
     pub tainted: Tainted,
     pub settled: Settled,
 }
@@ -37,13 +37,13 @@ pub(crate) fn plan_of(
 {
     let uses = UseGraph::of_program(alloc, program)?;
     let calls = components_of(alloc, &uses.calls)?;
-    let rows = classes_by_wave(alloc, verdicts, program.given_count())?;
+    let waves = classes_by_wave(alloc, verdicts, program.given_count())?;
     let settled = start(alloc, verdicts)?;
     let tainted = Tainted::of(alloc, program, &uses, &settled)?;
     Ok(Plan {
         uses,
         calls,
-        rows,
+        waves,
         tainted,
         settled,
     })

@@ -27,14 +27,14 @@ fn is_refused(verdict: Verdict) -> bool
 }
 
 /// Which classes are not accepted.
-fn refused_marks(alloc: Global, verdicts: &[Verdict]) -> Result<Vec<bool>, AllocError>
-    ensures { IfOk result (λ marks. marks.items ≡ map is_refused verdicts.now) }
+fn refused_flags(alloc: Global, verdicts: &[Verdict]) -> Result<Vec<bool>, AllocError>
+    ensures { IfOk result (λ flags. flags.items ≡ map is_refused verdicts.now) }
 {
-    let mut marks = Vec::with_capacity(alloc, verdicts.len())?;
+    let mut flags = Vec::with_capacity(alloc, verdicts.len())?;
     for verdict in verdicts {
-        marks.push(is_refused(*verdict))?;
+        flags.push(is_refused(*verdict))?;
     }
-    Ok(marks)
+    Ok(flags)
 }
 
 /// For each class the first that is not accepted of those that it uses, if there is one.
@@ -50,8 +50,8 @@ fn first_in(
     requires count { length settled.now.verdicts ≡ length program.now.classes }
     ensures { IfOk result (λ first. AreFirstIn program.now (settled_of settled.now) first.items) }
 {
-    let marks = refused_marks(alloc, settled.verdicts.as_slice())?;
-    first_refused(alloc, program, uses, calls, marks.as_slice())
+    let flags = refused_flags(alloc, settled.verdicts.as_slice())?;
+    first_refused(alloc, program, uses, calls, flags.as_slice())
 }
 
 /// The verdict on a class, where this is the first refused class that it uses.

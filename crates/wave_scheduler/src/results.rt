@@ -13,7 +13,7 @@ use std::marker::{Model, PhantomData};
 /// The outcome of a class, with what its wave was lent. Contracts see the class and its outcome.
 #[derive(Drop)]
 pub(crate) struct Done<W: Lent> {
-    /// Where the class stands in the row of its wave.
+    /// Where the class stands among those of its wave.
     place: usize,
     class: u32,
     outcome: Outcome,
@@ -60,7 +60,7 @@ impl<W: Lent> Done<W> {
     }
 }
 
-/// The results that were moved back, at the places of the row of a wave.
+/// The results that were moved back, at the places among the classes of a wave.
 #[derive(Drop)]
 pub(crate) struct Results<W: Lent> {
     slots: Vec<Option<Done<W>>>,

@@ -32,7 +32,7 @@ fn settle_judged_here(alloc: Global, terms: Terms<'_>) -> Result<Settled, AllocE
     try_all_here(
         alloc,
         terms,
-        plan.rows.as_slice(),
+        plan.waves.as_slice(),
         &mut plan.tainted,
         &mut plan.settled,
     )?;
@@ -62,7 +62,7 @@ fn settle_judged<G: Gate, R: Threads + Wait + Sync>(
         rt,
         alloc,
         terms,
-        plan.rows.as_slice(),
+        plan.waves.as_slice(),
         caller,
         &mut plan.tainted,
         &mut plan.settled,

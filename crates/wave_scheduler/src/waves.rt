@@ -149,15 +149,15 @@ fn try_wave<G: Gate, R: Threads + Wait + Sync>(
     run_wave::<Brand, G, R>(rt, alloc, wave, caller, tainted, settled)
 }
 
-/// The wave of a number, with the classes of its row.
-fn nth_wave<'a>(terms: Terms<'a>, rows: &'a [Vec<u32>], number: usize) -> Wave<'a>
-    requires { number < length rows.now }
-    ensures { IsNthWave terms.entry (rows_of rows.now) number result }
+/// The wave of a number, with its classes.
+fn nth_wave<'a>(terms: Terms<'a>, waves: &'a [Vec<u32>], number: usize) -> Wave<'a>
+    requires { number < length waves.now }
+    ensures { IsNthWave terms.entry (rows_of waves.now) number result }
 {
     Wave {
         terms,
         number,
-        classes: rows[number].as_slice(),
+        classes: waves[number].as_slice(),
     }
 }
 
@@ -165,16 +165,16 @@ fn nth_wave<'a>(terms: Terms<'a>, rows: &'a [Vec<u32>], number: usize) -> Wave<'
 pub(crate) fn try_all_here(
     alloc: Global,
     terms: Terms<'_>,
-    rows: &[Vec<u32>],
+    waves: &[Vec<u32>],
     tainted: &mut Tainted,
     settled: &mut Settled,
 ) -> Result<(), AllocError>
-    requires { CanTryAll terms (rows_of rows.now) (settled_of settled.old) tainted.old }
+    requires { CanTryAll terms (rows_of waves.now) (settled_of settled.old) tainted.old }
     ensures { OnOk result (AreTriedBelow terms.entry.program.now terms.entry.budget terms.entry.verdicts.now
-        (length rows.now) (settled_of settled.new)) }
+        (length waves.now) (settled_of settled.new)) }
 {
-    for number in 0..rows.len() {
-        let wave = nth_wave(terms, rows, number);
+    for number in 0..waves.len() {
+        let wave = nth_wave(terms, waves, number);
         try_wave_here(alloc, wave, tainted, settled)?;
     }
     Ok(())
@@ -185,17 +185,17 @@ pub(crate) fn try_all<G: Gate, R: Threads + Wait + Sync>(
     rt: &R,
     alloc: Global,
     terms: Terms<'_>,
-    rows: &[Vec<u32>],
+    waves: &[Vec<u32>],
     caller: &Worker<'_, G>,
     tainted: &mut Tainted,
     settled: &mut Settled,
 ) -> Result<(), AllocError>
-    requires waves { CanTryAll terms (rows_of rows.now) (settled_of settled.old) tainted.old }
+    requires waves { CanTryAll terms (rows_of waves.now) (settled_of settled.old) tainted.old }
     ensures { OnOk result (AreTriedBelow terms.entry.program.now terms.entry.budget terms.entry.verdicts.now
-        (length rows.now) (settled_of settled.new)) }
+        (length waves.now) (settled_of settled.new)) }
 {
-    for number in 0..rows.len() {
-        let wave = nth_wave(terms, rows, number);
+    for number in 0..waves.len() {
+        let wave = nth_wave(terms, waves, number);
         try_wave(rt, alloc, wave, caller, tainted, settled)?;
     }
     Ok(())

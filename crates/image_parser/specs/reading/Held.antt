@@ -97,8 +97,8 @@ abbrev pub HoldsKept : List (List ℕ) → KeptObject → ℕ × Object → Type
 HoldsKept strings kept o = (o.0 ≡ kept.number) × HoldsObject strings kept.object o.1
 
 -- objects with their numbers, in order
-abbrev pub HoldsRow : List (List ℕ) → List KeptObject → List (ℕ × Object) → Type 0
-HoldsRow strings = AllZip (HoldsKept strings)
+abbrev pub HoldsKeptAll : List (List ℕ) → List KeptObject → List (ℕ × Object) → Type 0
+HoldsKeptAll strings = AllZip (HoldsKept strings)
 
 -- the objects by their numbers
 abbrev pub HoldsAt : List (List ℕ) → List KeptObject → Pool → Type 0

@@ -33,7 +33,7 @@ SlotsName regions slots = AllBelow (SlotNames regions slots) (length slots)
 
 -- the slots of the object at a place
 abbrev pub KeptNames : List (Option Region) → HeldObjects → ℕ → Type 0
-KeptNames regions row k = (held : ℕ × Object) → slice_get row.objects k ≡ Some held → SlotsName regions held.1.slots
+KeptNames regions pool k = (held : ℕ × Object) → slice_get pool.objects k ≡ Some held → SlotsName regions held.1.slots
 
 -- the slots of each object
 abbrev pub PoolNames : List (Option Region) → Pool → Type 0

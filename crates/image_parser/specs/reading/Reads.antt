@@ -2,9 +2,9 @@
 -- reading tells.
 use Rattle.std.specs.Prelude.{◌≡◌, ℕ, List, Result, Ok, Err}
 use Rattle.program.specs.Tables.{Tables}
-use Rattle.image_parser.specs.declared.fault.MarksFault.{MarksFault}
+use Rattle.image_parser.specs.declared.fault.FlagsFault.{FlagsFault}
 use Rattle.image_parser.specs.declared.fault.RegionFault.{RegionFault}
-use Rattle.image_parser.specs.MarkFaults.{FailsIn}
+use Rattle.image_parser.specs.FlagFaults.{FailsIn}
 use Rattle.image_parser.specs.reading.Held.{AddsStrings}
 use Rattle.image_parser.specs.reading.Results.{Fails}
 
@@ -31,6 +31,6 @@ Makes Holds P Q (Err e) read = Fails e read × (Q.family ≡ P.family)
 
 -- the same among all classes
 abbrev pub ReadsIn : {X T H : Type 0} → (List (List ℕ) → T → H → Type 0) → (X → H × List ℕ) → Tables → Tables
-    → Result X MarksFault → Result (T × List ℕ) MarksFault → Type 0
+    → Result X FlagsFault → Result (T × List ℕ) FlagsFault → Type 0
 ReadsIn Holds view P Q (Ok x) read = IsHeld Holds P Q (view x).0 (λ told. (told, (view x).1)) read
 ReadsIn Holds view P Q (Err e) read = FailsIn e read × (Q.family ≡ P.family)

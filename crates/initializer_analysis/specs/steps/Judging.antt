@@ -57,20 +57,20 @@ pub record AreRefused (P : Tables) (uses : UseGraph) (graph : Rows) (own : List 
 
 -- ---- waves
 
-pub record AreMarkedFrom (limit : ℕ) (old new : List Bool) : Type 0 where
+pub record AreFlaggedFrom (limit : ℕ) (old new : List Bool) : Type 0 where
   pub len : length new ≡ length old + limit
   pub kept : (v : ℕ) → v < length old → slice_index_or new v false ≡ slice_index_or old v false
   pub here : (v : ℕ) → length old ≤ v → v < length old + limit → slice_index_or new v false ≡ true
 
-pub record AreClassMarks (uses : UseGraph) (limit : ℕ) (marks : List Bool) : Type 0 where
-  pub len : length marks ≡ length uses.calls + limit
-  pub classes : (c : ℕ) → c < limit → IsTrue (slice_index_or marks (vertex_of uses c) false)
-  pub only : (v : ℕ) → IsTrue (slice_index_or marks v false) → (c : ℕ) × (c < limit) × (v ≡ vertex_of uses c)
+pub record AreClassFlags (uses : UseGraph) (limit : ℕ) (flags : List Bool) : Type 0 where
+  pub len : length flags ≡ length uses.calls + limit
+  pub classes : (c : ℕ) → c < limit → IsTrue (slice_index_or flags (vertex_of uses c) false)
+  pub only : (v : ℕ) → IsTrue (slice_index_or flags v false) → (c : ℕ) × (c < limit) × (v ≡ vertex_of uses c)
 
 -- heights over the vertices of classes
 abbrev pub AreClassHeights : Tables → UseGraph → Rows → List ℕ → Type 0
 AreClassHeights P uses graph heights =
-    (marks : List Bool) × AreClassMarks uses (length P.classes) marks × AreHeights graph marks heights
+    (flags : List Bool) × AreClassFlags uses (length P.classes) flags × AreHeights graph flags heights
 
 -- ---- verdicts
 

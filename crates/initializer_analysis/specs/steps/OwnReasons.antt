@@ -5,10 +5,10 @@ use Rattle.program.specs.Tables.{Tables}
 use Rattle.initializer_analysis.specs.declared.verdict.Reason.{Reason}
 use Rattle.initializer_analysis.specs.Verdicts.{UsesAlong, IsFirstReason, NoneHolds}
 
--- marks tell which given classes use themselves by way of others
-pub record AreOnCycles (P : Tables) (marks : List Bool) : Type 0 where
-  pub count : length marks ≡ length P.classes
-  pub each : (c : ℕ) → c < length P.classes → (IsTrue (slice_index_or marks c false) ↔ UsesAlong P c c)
+-- flags tell which given classes use themselves by way of others
+pub record AreOnCycles (P : Tables) (flags : List Bool) : Type 0 where
+  pub count : length flags ≡ length P.classes
+  pub each : (c : ℕ) → c < length P.classes → (IsTrue (slice_index_or flags c false) ↔ UsesAlong P c c)
 
 -- of each given class the first reason, or none where none holds
 pub record AreOwnReasons (P : Tables) (forced : List Bool) (reasons : List (Option Reason)) : Type 0 where

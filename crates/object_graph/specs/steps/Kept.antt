@@ -24,11 +24,11 @@ kept_from found c i [] = []
 kept_from found c i (held ∷ more) =
     only_if (is_among found (record { row = c; index = i })) held ++ kept_from found c (i + 1) more
 
-abbrev pub kept_row : List Place → ℕ → HeldObjects → HeldObjects
-kept_row found c row = record { count = row.count; objects = kept_from found c 0 row.objects }
+abbrev pub kept_pool : List Place → ℕ → HeldObjects → HeldObjects
+kept_pool found c row = record { count = row.count; objects = kept_from found c 0 row.objects }
 
 abbrev pub kept_in : List Place → ℕ → Held → Held
-kept_in found c region = record { fields = region.fields; objects = kept_row found c region.objects }
+kept_in found c region = record { fields = region.fields; objects = kept_pool found c region.objects }
 
 abbrev pub kept_region : List Place → ℕ → Option Held → Option Held
 kept_region found c region = option_map (kept_in found c) region

@@ -1,4 +1,4 @@
--- Places of objects in the rows of their classes, and which of them static fields reach.
+-- Places of objects in the pools of their classes, and which of them static fields reach.
 use Rattle.std.specs.Prelude.{◌≡◌, ℕ, ◌<◌, List, Option, Some, None, length, slice_get}
 use Rattle.std.specs.List.{Contains}
 use Rattle.vm_state.specs.declared.object.Object.{Object}
@@ -12,13 +12,13 @@ use Rattle.region_shape.specs.Regions.{region_in, environment_of}
 use Rattle.object_graph.specs.declared.name_set.ObjectName.{ObjectName}
 use Rattle.object_graph.specs.Reached.{reference_to, IsReached}
 
-abbrev pub row_of : Option Held → HeldObjects
-row_of None = none_held
-row_of (Some region) = region.objects
+abbrev pub held_pool : Option Held → HeldObjects
+held_pool None = none_held
+held_pool (Some region) = region.objects
 
--- the row of a class; one that made nothing, where it has no region
-abbrev pub row_in : List (Option Held) → ℕ → HeldObjects
-row_in regions c = row_of (region_in regions c)
+-- the pool of a class; one that made nothing, where it has no region
+abbrev pub pool_in : List (Option Held) → ℕ → HeldObjects
+pool_in regions c = held_pool (region_in regions c)
 
 -- its numbers rise, and end below its count
 abbrev pub Ascends : HeldObjects → Type 0
@@ -33,7 +33,7 @@ name_in c held = record { class = c; number = held.0 }
 -- the place of the object that a value refers to
 pub record IsPlaceOf (regions : List (Option Held)) (v : Value) (x : Place) : Type 0 where
   pub held : ℕ × Object
-  pub at : slice_get (row_in regions x.row).objects x.index ≡ Some held
+  pub at : slice_get (pool_in regions x.row).objects x.index ≡ Some held
   pub is : v ≡ reference_to (name_in x.row held)
 
 -- one of these values refers to its object
@@ -55,7 +55,7 @@ IsInStaticsOf P regions c x =
 -- the object of another place does
 pub record HoldsPlace (regions : List (Option Held)) (x y : Place) : Type 0 where
   pub held : ℕ × Object
-  pub at : slice_get (row_in regions x.row).objects x.index ≡ Some held
+  pub at : slice_get (pool_in regions x.row).objects x.index ≡ Some held
   pub holds : HoldPlace regions held.1.slots y
 
 -- ---- reached
@@ -63,7 +63,7 @@ pub record HoldsPlace (regions : List (Option Held)) (x y : Place) : Type 0 wher
 -- there is an object at the place, and it is reached
 pub record IsReachedAt (P : Tables) (regions : List (Option Held)) (x : Place) : Type 0 where
   pub held : ℕ × Object
-  pub at : slice_get (row_in regions x.row).objects x.index ≡ Some held
+  pub at : slice_get (pool_in regions x.row).objects x.index ≡ Some held
   pub reached : IsReached P (environment_of regions) (name_in x.row held)
 
 -- the first so many places of a class are among these

@@ -3,7 +3,7 @@ use Rattle.std.specs.Prelude.{◌≡◌, ℕ, ◌<◌, ◌≤◌, ◌⊎◌, ◌
 use Rattle.std.specs.Prelude.{slice_index_or, string_bytes}
 use Rattle.std.specs.List.{All, Contains}
 use Rattle.options.specs.Patterns.{spelled}
-use Rattle.options.specs.steps.Marks.{Grow}
+use Rattle.options.specs.steps.Flags.{Grow}
 use Rattle.options.specs.steps.Names.{Begins}
 use Rattle.options.specs.steps.Texts.{Text}
 use Rattle.options.specs.declared.fault.OptionFault.{OptionFault}
@@ -61,9 +61,9 @@ IsMatchedClass names patterns c =
 abbrev pub IsEndOf : List ℕ → ℕ → ℕ → Type 0
 IsEndOf ends count end = (i : ℕ) → (i < end) ↔ ((j : ℕ) × (j < count) × (i < slice_index_or ends j 0))
 
--- the classes of the first places were marked, where these are covered
-pub record AreMarkedTo (names : List DottedName) (ends : List ℕ) (first now : List Bool) (count reach : ℕ) : Type 0
+-- the classes of the first places were flagged, where these are covered
+pub record AreFlaggedTo (names : List DottedName) (ends : List ℕ) (first now : List Bool) (count reach : ℕ) : Type 0
   where
     pub end : IsEndOf ends count reach
-    pub marks : Grow first now (λ c. (i : ℕ) × (n : DottedName) × (i < count) × (slice_get names i ≡ Some n)
+    pub flags : Grow first now (λ c. (i : ℕ) × (n : DottedName) × (i < count) × (slice_get names i ≡ Some n)
         × (n.class ≡ c) × Covers ends i)

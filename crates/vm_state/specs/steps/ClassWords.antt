@@ -28,6 +28,7 @@ element_of primitive.Double = element.Double
 abbrev pub class_of_word : ClassWord → ClassId
 class_of_word (word.Given c) = Given c
 class_of_word (word.BuiltIn c) = BuiltIn c
+class_of_word (word.Numbers p) = array_of 1 (element_of p)
 class_of_word (word.OfPrimitive d p) = array_of d (element_of p)
 class_of_word (word.OfGiven d c) = array_of d (element.Given c)
 class_of_word (word.OfBuiltIn d c) = array_of d (element.BuiltIn c)

@@ -15,11 +15,11 @@ use Rattle.wave_scheduler.specs.steps.Tainting.{vertex_in, IsSeen, IsSearched}
 abbrev pub no_classes : Tables
 no_classes = record { family = []; orders = []; classes = []; strings = [] }
 
--- nothing that the code alone bars stops a class of a row that depends on no class that is not accepted
+-- nothing that the code alone bars stops a class of a members that depends on no class that is not accepted
 abbrev pub AreReady : Program → Environment → ℕ → Tainted → List ℕ → Type 0
-AreReady P env budget t row =
-    (i : ℕ) → i < length row → (¬ IsSeen t (vertex_in t (slice_index row i)))
-    → IsUnbarred P env (slice_index row i) budget
+AreReady P env budget t members =
+    (i : ℕ) → i < length members → (¬ IsSeen t (vertex_in t (slice_index members i)))
+    → IsUnbarred P env (slice_index members i) budget
 
 -- a wave may be run with its program, these regions and its budget, and they are those that it picked
 pub record CanRunWave (lent : Tables) (held : List (Option Region)) (most : ℕ) (wave : Wave)

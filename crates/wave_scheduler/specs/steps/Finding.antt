@@ -22,7 +22,7 @@ use Rattle.wave_scheduler.specs.steps.Waves.{IsTriedIn, AreRefusedIn, dependent}
 
 -- of each class the first that is not accepted of those that it uses
 abbrev pub AreFirstIn : Tables → Settled → List (Option ℕ) → Type 0
-AreFirstIn P S first = (marks : List Bool) × AreRefusedIn P S marks × AreFirstRefused P marks first
+AreFirstIn P S first = (flags : List Bool) × AreRefusedIn P S flags × AreFirstRefused P flags first
 
 -- nothing that the code alone bars stops the initializer of a class that depends on no refused one
 abbrev pub CanRun : Program → Environment → ℕ → ℕ → Option ℕ → Type 0

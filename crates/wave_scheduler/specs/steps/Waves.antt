@@ -73,9 +73,9 @@ pub record StartsFrom (judged : List Verdict) (S : Settled) : Type 0 where
 -- ---- at the end
 
 -- of each class whether it is not accepted
-pub record AreRefusedIn (P : Tables) (S : Settled) (marks : List Bool) : Type 0 where
-  pub count : length marks ≡ length P.classes
-  pub each : (c : ℕ) → c < length P.classes → IsTrue (slice_index_or marks c false) ↔ (¬ IsAccepted S c)
+pub record AreRefusedIn (P : Tables) (S : Settled) (flags : List Bool) : Type 0 where
+  pub count : length flags ≡ length P.classes
+  pub each : (c : ℕ) → c < length P.classes → IsTrue (slice_index_or flags c false) ↔ (¬ IsAccepted S c)
 
 -- a class depends on the first class that is refused of those that it uses
 abbrev pub dependent : Option ℕ → Outcome → Outcome
@@ -104,9 +104,9 @@ WavesGoOn =
 abbrev pub WavesEnd : Type 0
 WavesEnd =
     (P : Tables) (forced : List Bool) (budget : ℕ) (judged : List Verdict) (n : ℕ) (old new : Settled)
-    (marks : List Bool) (first : List (Option ℕ)) → before.AreVerdicts P forced judged
+    (flags : List Bool) (first : List (Option ℕ)) → before.AreVerdicts P forced judged
     → AreTriedBelow P budget judged n old → ((c m : ℕ) → before.HasWave judged c m → m < n)
-    → AreRefusedIn P old marks → AreFirstRefused P marks first → HasFirst first old new
+    → AreRefusedIn P old flags → AreFirstRefused P flags first → HasFirst first old new
     → FollowVerdicts P budget judged new
 
 -- What is found of a class of the next wave, all of whose uses are accepted, with the regions of lower waves at hand

@@ -1,6 +1,6 @@
 use Rattle.std.proofs.Common.{refl, subst}
 use Rattle.program.specs.Tables.{Tables}
-use Rattle.image_parser.specs.reading.Marked.{RegionsHeld}
+use Rattle.image_parser.specs.reading.Flagged.{RegionsHeld}
 use Rattle.image_parser.proofs.ImageLemmas.{files_held, parts_held, regions_fail}
 use Rattle.image_parser.proofs.image.of_program.Goals.{After-classes-classes}
 use Rattle.image_parser.proofs.image.of_program.Goals as goal

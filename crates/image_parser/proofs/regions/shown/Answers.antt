@@ -1,6 +1,6 @@
 use Rattle.std.proofs.Common.{refl, subst, sym}
 use Rattle.image_format.specs.declared.version.Version.{Version}
-use Rattle.image_parser.specs.reading.Marked.{NeedsReached}
+use Rattle.image_parser.specs.reading.Flagged.{NeedsReached}
 use Rattle.image_parser.proofs.regions.shown.Goals as goal
 
 pub returns-in-One-clause-shown : goal.returns-in-One-clause-shown

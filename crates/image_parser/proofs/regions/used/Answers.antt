@@ -1,5 +1,5 @@
 use Rattle.std.proofs.Common.{inr, refl}
-use Rattle.image_parser.specs.reading.Marked.IsIdleFault.{idle}
+use Rattle.image_parser.specs.reading.Flagged.IsIdleFault.{idle}
 use Rattle.image_parser.proofs.regions.used.Goals as goal
 
 pub returns-in-Some-clause-idle : goal.returns-in-Some-clause-idle

@@ -13,8 +13,8 @@ returns-in-Ok c =
     (AreVerdicts P c.args.forced.now)
     (λ verdicts (refused, are, judged).
     let (first, heights, firsts, waves, by) = judged in
-    let (marks, classes, high) = waves in
+    let (flags, classes, high) = waves in
     are_verdicts P uses graph c.requires.dependences.uses c.requires.dependences.graph c.args.forced.now
-    c.as_slice.result.now refused first heights marks verdicts (rw c.as_slice.ensures.value c.in-Ok.ensures) are firsts
+    c.as_slice.result.now refused first heights flags verdicts (rw c.as_slice.ensures.value c.in-Ok.ensures) are firsts
     classes high by)
     c.judge_known.ensures

@@ -4,7 +4,7 @@ use Rattle.std.specs.declared.alloc.Global.{Global}
 use Rattle.object_graph.proofs.RowPlaceLemmas.{none_held}
 use Rattle.object_graph.specs.declared.name_set.ObjectName.{ObjectName}
 use Rattle.object_graph.specs.steps.Listed.{names_of}
-use Rattle.object_graph.specs.steps.Places.{row_in}
+use Rattle.object_graph.specs.steps.Places.{pool_in}
 use Rattle.object_graph.proofs.ListedLemmas.{one_name}
 use Rattle.object_graph.proofs.listing.add_names.Goals as goal
 use Rattle.object_graph.proofs.listing.add_names.Goals.{in-Some+in_ok-push, in_default}
@@ -14,7 +14,7 @@ items_of v = v.items
 
 pub loop-index-preserved : goal.loop-index-preserved
 loop-index-preserved c =
-    let os = (row_in c.args.regions.now c.args.class).objects in
+    let os = (pool_in c.args.regions.now c.args.class).objects in
     let old = c.args.names.now.items in
     let Next : List ObjectName → Type 0 =
     λ names. names ≡ old ++ names_of c.args.class (take (c.loop-index.index + 1) os) in

@@ -13,7 +13,7 @@ returns-in-Ok-clause-known c =
 pub returns-in-Ok-clause-fault : goal.returns-in-Ok-clause-fault
 returns-in-Ok-clause-fault c =
     rw (← c.family-family.ensures)
-    (demand_fails c.family-family.result.now c.args.patterns.now c.in-Ok.marks.items c.args.forced.now
+    (demand_fails c.family-family.result.now c.args.patterns.now c.in-Ok.flags.items c.args.forced.now
     c.demand_of.result c.in-Ok.ensures.known c.in-Ok.ensures.demanded c.demand_of.ensures.fault)
 
 pub returns-in-Err-clause-fault : goal.returns-in-Err-clause-fault

@@ -6,11 +6,11 @@ use Rattle.options.specs.steps.Covering.{IsCoveredClass, IsMatchedClass}
 use Rattle.options.proofs.MatchedLemmas.{classes_covered}
 use Rattle.options.proofs.matching.matched_among.Goals as goal
 
-pub returns-in-Ok-clause-marks : goal.returns-in-Ok-clause-marks
-returns-in-Ok-clause-marks c =
+pub returns-in-Ok-clause-flags : goal.returns-in-Ok-clause-flags
+returns-in-Ok-clause-flags c =
     let names = c.args.names.now in
     let patterns = map string_bytes c.args.patterns.now in
-    IfOk-weaker c.marks_of.result (λ marks. AreClasses marks.items (IsCoveredClass names c.deref.result.now))
-    (λ marks. AreClasses marks.items (IsMatchedClass names patterns))
-    (λ marks are. classes_covered names patterns (length names) c.deref.result.now marks.items
-    (rw c.deref.ensures.value c.in-Ok.ensures.covers) are) c.marks_of.ensures.marks
+    IfOk-weaker c.flags_of.result (λ flags. AreClasses flags.items (IsCoveredClass names c.deref.result.now))
+    (λ flags. AreClasses flags.items (IsMatchedClass names patterns))
+    (λ flags are. classes_covered names patterns (length names) c.deref.result.now flags.items
+    (rw c.deref.ensures.value c.in-Ok.ensures.covers) are) c.flags_of.ensures.flags

@@ -15,18 +15,18 @@ matched_among-requires-clause-within c =
     subst (λ (names : List DottedName). All (λ (n : DottedName). n.class < length names) names)
     (sym c.deref.ensures.value) (names_within c.args.family.now c.in-Ok.names.items c.in-Ok.ensures.names)
 
-pub returns-in-Ok-clause-marks : goal.returns-in-Ok-clause-marks
-returns-in-Ok-clause-marks c =
+pub returns-in-Ok-clause-flags : goal.returns-in-Ok-clause-flags
+returns-in-Ok-clause-flags c =
     let family = c.args.family.now in
     let names = c.deref.result.now in
     let are : AreNames family (length family) names =
     subst (AreNames family (length family)) (sym c.deref.ensures.value) c.in-Ok.ensures.names in
     IfOk-weaker c.matched_among.result
-    (λ marks. AreClasses marks.items (IsMatchedClass names (map string_bytes c.texts.result.now)))
-    (λ marks. AreClasses marks.items (IsMatched family c.args.patterns.now))
-    (λ marks each. rw (← c.texts.ensures)
-    (classes_are family names are marks.items (map string_bytes c.texts.result.now) each))
-    c.matched_among.ensures.marks
+    (λ flags. AreClasses flags.items (IsMatchedClass names (map string_bytes c.texts.result.now)))
+    (λ flags. AreClasses flags.items (IsMatched family c.args.patterns.now))
+    (λ flags each. rw (← c.texts.ensures)
+    (classes_are family names are flags.items (map string_bytes c.texts.result.now) each))
+    c.matched_among.ensures.flags
 
 pub returns-in-Ok-clause-known : goal.returns-in-Ok-clause-known
 returns-in-Ok-clause-known c =

@@ -24,7 +24,7 @@ pub returns : goal.returns
 returns c = record {
   uses = c.in_ok-uses.ensures;
   calls = c.in_ok-calls.ensures;
-  rows = c.in_ok-rows.ensures;
+  waves = c.in_ok-waves.ensures;
   starts = c.in_ok-settled.ensures;
   tainted = c.in_ok-tainted.ensures;
 }

@@ -6,7 +6,7 @@ give_first-requires-clause-count c = c.requires.count ∙ sym c.given_count-coun
 
 pub give_first-requires-clause-first : goal.give_first-requires-clause-first
 give_first-requires-clause-first c =
-    let (marks, refused, firsts) = c.in_ok-first.ensures in
+    let (flags, refused, firsts) = c.in_ok-first.ensures in
     rw c.as_slice.ensures.value (firsts.count ∙ sym c.given_count-count.ensures.value)
 
 pub returns : goal.returns

@@ -10,7 +10,7 @@ try_all_here-requires c =
     let (forced, are) = c.requires in
     record {
       judged = c.requires;
-      rows = rw c.as_slice.ensures.value c.in_ok-plan.ensures.rows;
+      waves = rw c.as_slice.ensures.value c.in_ok-plan.ensures.waves;
       tried = waves_start_lem c.args.terms.program.now forced c.args.terms.budget c.args.terms.verdicts.now
           (settled_of c.in_ok-plan.plan.settled) are c.in_ok-plan.ensures.starts;
       tainted = c.in_ok-plan.ensures.tainted;
@@ -22,7 +22,7 @@ give_first_refused-requires-clause-count c =
 
 pub returns : goal.returns
 returns c =
-    all_follow c.args.terms.program.now c.args.terms.budget c.args.terms.verdicts.now c.in_ok-plan.plan.rows.items
+    all_follow c.args.terms.program.now c.args.terms.budget c.args.terms.verdicts.now c.in_ok-plan.plan.waves.items
     (settled_of c.try_all_here.new.settled) (settled_of c.give_first_refused.new.settled) c.requires
-    c.in_ok-plan.ensures.rows (rw c.as_slice.ensures.value at c.in_ok-try_all_here.ensures)
+    c.in_ok-plan.ensures.waves (rw c.as_slice.ensures.value at c.in_ok-try_all_here.ensures)
     c.in_ok-give_first_refused.ensures

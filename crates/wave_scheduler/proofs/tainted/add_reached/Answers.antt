@@ -18,10 +18,10 @@ loop-next-preserved c =
     let items = c.loop-next.seen.items in
     let next = c.loop-next.next in
     let here : ℕ = slice_index items next in
-    let row : c.successors.result.now ≡ successors_of graph here =
+    let members : c.successors.result.now ≡ successors_of graph here =
     c.successors.ensures.value ∙ ap (λ (v : ℕ). successors_of graph v) c.at-at.ensures.value in
     let adds : Adds items (successors_of graph here) c.visit.new.seen.items =
-    subst (λ (r : List ℕ). Adds items r c.visit.new.seen.items) row c.in_ok-visit.ensures.adds in
+    subst (λ (r : List ℕ). Adds items r c.visit.new.seen.items) members c.in_ok-visit.ensures.adds in
     record {
       limit = c.in_ok-visit.ensures.limit ∙ c.loop-next.invariant.limit;
       spreading = spreading_next graph c.args.vertex c.args.seen.now.items items c.visit.new.seen.items next

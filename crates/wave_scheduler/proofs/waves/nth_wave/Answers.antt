@@ -7,5 +7,5 @@ returns c = record {
   terms = refl;
   number = refl;
   classes = c.as_slice.ensures.value
-      ∙ row_read c.args.rows.now c.args.number c.index-rows-number.result c.requires c.index-rows-number.is;
+      ∙ row_read c.args.waves.now c.args.number c.index-waves-number.result c.requires c.index-waves-number.is;
 }

@@ -18,7 +18,7 @@ results_of-requires-clause-wave g c = λ κs alive. record {
       let (forced, are) = c.requires.wave.judged in
       let P = c.args.wave.terms.program.now in
       let old = settled_of c.args.settled.now in
-      let row = c.args.wave.classes.now in
+      let members = c.args.wave.classes.now in
       let fits = subst IsFamily c.family.ensures c.classes-given.ensures.fits in
       let within = subst (λ (f : Family). AreParentsWithin f) c.family.ensures c.classes-given.ensures.within in
       can_run P forced c.args.wave.terms.budget c.args.wave.terms.verdicts.now c.args.wave.number old
@@ -26,8 +26,8 @@ results_of-requires-clause-wave g c = λ κs alive. record {
       c.requires.wave.tried [] old c.args.tainted.now
       (tries_none P forced c.args.wave.terms.budget c.args.wave.terms.verdicts.now c.args.wave.number old
       c.classes-tables.ensures.fits fits within
-      are c.requires.wave.tried) c.requires.wave.tainted (slice_index row i)
-      (wave_at c.args.wave.terms.verdicts.now c.args.wave.number row i c.requires.wave.row low) (λ there. omega
+      are c.requires.wave.tried) c.requires.wave.tainted (slice_index members i)
+      (wave_at c.args.wave.terms.verdicts.now c.args.wave.number members i c.requires.wave.members low) (λ there. omega
       (arith, there.1))
       (environment_of c.args.settled.now.regions) (λ d. region_seen c.args.settled.now.regions d) unseen;
 }

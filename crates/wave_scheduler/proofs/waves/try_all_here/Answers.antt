@@ -8,6 +8,6 @@ loop-number-init c = record { tried = c.requires.tried; tainted = c.requires.tai
 
 pub try_wave_here-requires : goal.try_wave_here-requires
 try_wave_here-requires c =
-    can_try c.args.terms (rows_of c.args.rows.now) c.loop-number.number c.nth_wave-wave.result
+    can_try c.args.terms (rows_of c.args.waves.now) c.loop-number.number c.nth_wave-wave.result
     (settled_of c.args.settled.now) (settled_of c.loop-number.settled) c.args.tainted.now c.loop-number.tainted
     c.requires c.nth_wave-wave.ensures c.loop-number.invariant

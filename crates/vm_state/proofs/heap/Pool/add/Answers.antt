@@ -25,6 +25,7 @@ invariant_of-self-2 c =
           (subst (λ (os : List (ℕ × Object)). AscendsFrom 0 os (count + 1)) (sym more) up),
       is.fits,
       λ k h. c.self.invariant.2 k (omega (arith, h, next)),
+      search rules,
     )
 
 pub returns-clause-ok : goal.returns-clause-ok

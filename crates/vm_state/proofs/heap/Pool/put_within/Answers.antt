@@ -32,7 +32,7 @@ invariant_of-self-2 c =
     c.index_mut-held.ensures.value
     (ap (λ (vs : List Value). record (with_monitor_in c.self.inside.owners c.args.number held) { slots = vs })
     c.in_ok-count.ensures.some) in
-    (changed.ascends, changed.fits, c.self.invariant.2)
+    (changed.ascends, changed.fits, c.self.invariant.2, omega (arith, c.self.invariant.3, changed.same))
 
 pub returns-clause-form : goal.returns-clause-form
 returns-clause-form c =

@@ -19,9 +19,8 @@ returns-then-found-number-clause-held c =
     let later = c.self.inside.later.items in
     let kept = c.self.inside.kept.items in
     let plain : ℕ = length kept - length later in
-    let count : c.len.result ≡ length kept = search rules in
     let found : Some c.in-Some.found ≡ slice_get (numbers_in later kept) c.place_of-place.result =
-    rw count at (rw c.as_slice-later.ensures.value at c.in-Some.ensures) in
+    rw c.self.invariant.3 at (rw c.as_slice-later.ensures.value at c.in-Some.ensures) in
     let same : c.in-Some.found ≡ c.args.number = search rules in
     let P : HeldObjects → Type 0 = λ r. IsSome (object_at_place r.objects c.place_of-place.result c.args.number) in
     subst P c.self.view_is (is_there w (numbers_in later kept) kept c.place_of-place.result c.args.number
@@ -33,16 +32,15 @@ returns-else-found-number-clause-none c =
     let later = c.self.inside.later.items in
     let kept = c.self.inside.kept.items in
     let plain : ℕ = length kept - length later in
-    let count : c.len.result ≡ length kept = search rules in
     let found : Some c.in-Some.found ≡ slice_get (numbers_in later kept) c.place_of-place.result =
-    rw count at (rw c.as_slice-later.ensures.value at c.in-Some.ensures) in
+    rw c.self.invariant.3 at (rw c.as_slice-later.ensures.value at c.in-Some.ensures) in
     let other : (c.args.number == c.in-Some.found) ≡ false = search rules in
     let all = length_numbers later kept c.self.invariant.1 in
     let before : (i d : ℕ) → i < c.place_of-place.result → get_or (numbers_in later kept) i d < c.args.number =
-    rw count at (rw c.as_slice-later.ensures.value at c.place_of-place.ensures.before) in
+    rw c.self.invariant.3 at (rw c.as_slice-later.ensures.value at c.place_of-place.ensures.before) in
     let after : (d : ℕ) → c.place_of-place.result < plain + length later →
     c.args.number ≤ get_or (numbers_in later kept) c.place_of-place.result d =
-    rw count at (rw c.as_slice-later.ensures.value at c.place_of-place.ensures.after) in
+    rw c.self.invariant.3 at (rw c.as_slice-later.ensures.value at c.place_of-place.ensures.after) in
     ap (λ (r : HeldObjects). object_in r.objects c.args.number) (sym c.self.view_is)
     ∙ none_found w (numbers_in later kept) kept c.self.inside.count c.place_of-place.result c.args.number all
     c.self.invariant.0 (λ i d h inside. before i d h) (λ d h. after d (omega (arith, h, all, c.self.invariant.1)))
@@ -56,15 +54,14 @@ returns-in-None-clause-none c =
     let later = c.self.inside.later.items in
     let kept = c.self.inside.kept.items in
     let plain : ℕ = length kept - length later in
-    let count : c.len.result ≡ length kept = search rules in
     let found : None ≡ slice_get (numbers_in later kept) c.place_of-place.result =
-    rw count at (rw c.as_slice-later.ensures.value at c.in-None.ensures) in
+    rw c.self.invariant.3 at (rw c.as_slice-later.ensures.value at c.in-None.ensures) in
     let all = length_numbers later kept c.self.invariant.1 in
     let before : (i d : ℕ) → i < c.place_of-place.result → get_or (numbers_in later kept) i d < c.args.number =
-    rw count at (rw c.as_slice-later.ensures.value at c.place_of-place.ensures.before) in
+    rw c.self.invariant.3 at (rw c.as_slice-later.ensures.value at c.place_of-place.ensures.before) in
     let after : (d : ℕ) → c.place_of-place.result < plain + length later →
     c.args.number ≤ get_or (numbers_in later kept) c.place_of-place.result d =
-    rw count at (rw c.as_slice-later.ensures.value at c.place_of-place.ensures.after) in
+    rw c.self.invariant.3 at (rw c.as_slice-later.ensures.value at c.place_of-place.ensures.after) in
     ap (λ (r : HeldObjects). object_in r.objects c.args.number) (sym c.self.view_is)
     ∙ none_found w (numbers_in later kept) kept c.self.inside.count c.place_of-place.result c.args.number all
     c.self.invariant.0 (λ i d h inside. before i d h) (λ d h. after d (omega (arith, h, all, c.self.invariant.1)))

@@ -31,7 +31,7 @@ invariant_of-self c =
     c.index_mut-held.ensures.value
     (ap (λ (vs : List Value). record (with_monitor_in c.self.inside.owners c.args.number held) { slots = vs })
     c.in_ok-set_first.ensures.ok) in
-    (changed.ascends, changed.fits, c.self.invariant.2)
+    (changed.ascends, changed.fits, c.self.invariant.2, omega (arith, c.self.invariant.3, changed.same))
 
 pub returns-in_ok-set_first-clause-ok : goal.returns-in_ok-set_first-clause-ok
 returns-in_ok-set_first-clause-ok c =

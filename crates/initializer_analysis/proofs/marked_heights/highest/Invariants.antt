@@ -1,7 +1,0 @@
-use Rattle.std.proofs.Common.{take}
-use Rattle.initializer_analysis.specs.steps.Raised.{IsHighest}
-use Rattle.initializer_analysis.proofs.marked_heights.highest.Given as goal
-
-abbrev pub invariant-loop-vertex : goal.invariant-loop-vertex
-invariant-loop-vertex l =
-    IsHighest l.components.numbers (take l.vertex-index l.row) l.heights l.marked l.number l.start l.highest
