@@ -1,30 +1,25 @@
 -- What the conduct of one instruction makes of an initializer.
 use Rattle.std.proofs.Common.{◌≡◌, ℕ, suc, ◌+◌, ◌-◌, ◌<◌, ◌≤◌, true, false, nat_lt, List, [], ◌∷◌}
-use Rattle.std.proofs.Common.{Option, Some, None, Ok, Err, option_map, inl, inr, refl, sym, ap, subst, subst₂, ◌∙◌}
+use Rattle.std.proofs.Common.{Some, None, Ok, Err, inl, inr, refl, sym, ap, subst, subst₂, ◌∙◌}
 use Rattle.std.proofs.Common.{arith}
 use Rattle.std.proofs.lemmas.Bool.{cases_lt}
-use Rattle.vm_state.specs.declared.frame.Activity.{Activity}
 use Rattle.vm_state.specs.declared.frame.Frame.{Frame}
-use Rattle.vm_state.specs.declared.value.Value.{Value}
-use Rattle.vm_state.specs.Operands.{OperandStack}
-use Rattle.vm_state.specs.Segments.{first_frame, callers_of}
 use Rattle.vm_state.specs.SharedState.{Region}
-use Rattle.semantics.specs.Rows.{Row, Becomes as BecomesFrame, Calls as CallsFrame, Returns as ReturnsValue}
-use Rattle.semantics.specs.Moves.{moved, received, stays, with_operands}
+use Rattle.semantics.specs.Rows.{Row}
+use Rattle.semantics.specs.Moves.{moved}
 use Rattle.semantics.specs.Programs.{Program}
 use Rattle.semantics.specs.Quiet.{Environment, QuietMove, OverBudget, Faulted, Stop, Refused, Conduct, Leaves, Stops}
 use Rattle.semantics.specs.Quiet.{quiet_step}
 use Rattle.semantics.specs.Alone.{RunsAlone, Over, Step, StopsAlone, Failing, Unmade, Full, Later}
 use Rattle.evaluator.specs.steps.Within.{capped}
 use Rattle.std.specs.declared.result.Result.{Result}
-use Rattle.machine.specs.Accesses.{unless_refused, concluded, Gives}
+use Rattle.machine.specs.Accesses.{unless_refused, Gives}
 use Rattle.machine.specs.declared.kinds.Conclusion.{Conclusion}
-use Rattle.machine.specs.declared.kinds.Conclusion.TheVariants.{Stays, Becomes, Calls, Returns, Prints, Raises, Halts}
 use Rattle.machine.specs.declared.kinds.Stop.{Stop as Reason}
 use Rattle.machine.specs.declared.kinds.Stop.TheVariants as reasons
-use Rattle.evaluator.specs.steps.Builds.{stopped_build}
+use Rattle.evaluator.specs.steps.Builds.{Building, stopped_build}
 use Rattle.evaluator.specs.steps.Within.{within}
-use Rattle.evaluator.specs.steps.Steps.{GoesOn, conduct_of, Performs}
+use Rattle.evaluator.specs.steps.Steps.{GoesOn, Performs}
 
 over_budget : (most n : ℕ) → most < n → nat_lt most n ≡ true
 over_budget most n h = grind arith
@@ -86,56 +81,6 @@ module _ (P : Program) (env : Environment) (c : ℕ) where
         | inr fits ↦ (let clash : Leaves m ≡ Stops stop = rw (in_budget most m.elements fits) at e in cc)
       ]
 
-  -- ---- conclusions
-
-  pub stays_on : (most : ℕ) (f g : Frame) (fs : List Frame) (own new : Region) (made : ℕ) → f.activity ≡ g.activity →
-      conduct most f own ≡ conduct_of Stays g new made →
-      GoesOn P env c (f ∷ fs) own (suc most) (g ∷ fs) new (most - made)
-  stays_on most f g fs own new made same e =
-      step_on most f fs (g ∷ fs) own (record { move = stays g; region = new; elements = made }) e
-      (ap (λ (a : Activity). Some (record g { activity = a } ∷ fs)) same)
-
-  pub becomes_on : (most : ℕ) (f g : Frame) (fs : List Frame) (own new : Region) (made : ℕ) →
-      conduct most f own ≡ Leaves (record { move = BecomesFrame g; region = new; elements = made }) →
-      GoesOn P env c (f ∷ fs) own (suc most) (g ∷ fs) new (most - made)
-  becomes_on most f g fs own new made e =
-      step_on most f fs (g ∷ fs) own (record { move = BecomesFrame g; region = new; elements = made }) e refl
-
-  pub calls_on : (most : ℕ) (f callee : Frame) (operands : OperandStack) (fs gs : List Frame) (own new : Region)
-      (made : ℕ) →
-      conduct most f own ≡ Leaves (record { move = CallsFrame operands callee; region = new; elements = made }) →
-      gs ≡ callee ∷ with_operands f operands ∷ fs →
-      GoesOn P env c (f ∷ fs) own (suc most) gs new (most - made)
-  calls_on most f callee operands fs gs own new made e leads =
-      step_on most f fs gs own (record { move = CallsFrame operands callee; region = new; elements = made }) e
-      (ap Some (sym leads))
-
-  pub returns_over : (most : ℕ) (f : Frame) (fs : List Frame) (v : Option Value) (own new : Region) (made : ℕ) →
-      conduct most f own ≡ Leaves (record { move = ReturnsValue v; region = new; elements = made }) →
-      first_frame fs ≡ None → GoesOn P env c (f ∷ fs) own (suc most) [] new (most - made)
-  returns_over most f [] v own new made e none =
-      step_on most f [] [] own (record { move = ReturnsValue v; region = new; elements = made }) e refl
-  returns_over most f (g ∷ gs) v own new made e none = cc
-
-  pub returns_on : (most : ℕ) (f g back : Frame) (fs gs : List Frame) (v : Option Value) (own new : Region) (made : ℕ) →
-      conduct most f own ≡ Leaves (record { move = ReturnsValue v; region = new; elements = made }) →
-      first_frame fs ≡ Some g → gs ≡ callers_of fs → received v g ≡ Some back →
-      GoesOn P env c (f ∷ fs) own (suc most) (back ∷ gs) new (most - made)
-  returns_on most f g back [] gs v own new made e first rest room = cc
-  returns_on most f g back (h ∷ hs) gs v own new made e first rest room =
-      let caller : h ≡ g = cc in
-      step_on most f (h ∷ hs) (back ∷ gs) own (record { move = ReturnsValue v; region = new; elements = made }) e
-      (rw (caller, rest) (ap (option_map (λ (b : Frame). b ∷ hs)) room))
-
-  pub returns_full : (most : ℕ) (f g : Frame) (fs : List Frame) (v : Option Value) (own new : Region) (made : ℕ) →
-      conduct most f own ≡ Leaves (record { move = ReturnsValue v; region = new; elements = made }) →
-      first_frame fs ≡ Some g → received v g ≡ None → StopsAlone P env c (f ∷ fs) own (suc most) (Refused Faulted)
-  returns_full most f g [] v own new made e first room = cc
-  returns_full most f g (h ∷ hs) v own new made e first room =
-      let caller : h ≡ g = cc in
-      step_full most f (h ∷ hs) own (record { move = ReturnsValue v; region = new; elements = made }) e
-      (rw caller (ap (option_map (λ (b : Frame). b ∷ hs)) room))
-
   -- ---- steps in a row
 
   pub goes_further : {fs gs hs : List Frame} {own new last : Region} {budget left rest : ℕ} →
@@ -171,23 +116,12 @@ module _ (P : Program) (env : Environment) (c : ℕ) where
 
 -- ---- an instruction's result
 
-concluded_conduct : (P : Program) (env : Environment) (c most : ℕ) (own : Region) (made : ℕ) (conclusion : Conclusion)
-    (f : Frame) → within P env c most own made (concluded conclusion f) ≡ conduct_of conclusion f own made
-concluded_conduct P env c most own made Stays f = refl
-concluded_conduct P env c most own made (Becomes g) f = refl
-concluded_conduct P env c most own made (Calls callee arguments) f = refl
-concluded_conduct P env c most own made (Returns value) f = refl
-concluded_conduct P env c most own made (Prints text operands) f = refl
-concluded_conduct P env c most own made (Raises x class) f = refl
-concluded_conduct P env c most own made (Halts kind) f = refl
-
-pub performs : (run : Row → Conduct) (r : Row) (conduct : Conduct) → run r ≡ conduct → (P : Program)
-    (env : Environment) (c most : ℕ) (own : Region) (made : ℕ) (f : Frame) (result : Result Conclusion Reason) →
-    Gives stopped_build run (within P env c most own made) r f result → Performs conduct f own made result
-performs run r conduct is P env c most own made f (Ok conclusion) gives =
-    sym is ∙ gives ∙ concluded_conduct P env c most own made conclusion f
-performs run r conduct is P env c most own made f (Err stop) gives =
-    ap (unless_refused stop) (sym is) ∙ gives
+pub performs : (run : Row → Conduct) (b : Building) (r : Row) (conduct : Conduct) → run r ≡ conduct → (f : Frame)
+    (result : Result Conclusion Reason)
+    → Gives stopped_build run (within b.program b.environment b.class b.most b.own b.made) r f result
+    → Performs conduct b f result
+performs run b r conduct is f (Ok conclusion) gives = sym is ∙ gives
+performs run b r conduct is f (Err stop) gives = ap (unless_refused stop) (sym is) ∙ gives
 
 -- a reason that is not memory is heard
 pub heard : (stop : Reason) (a b : Conduct) → (stop ≡ reasons.Memory → ⊥) →

@@ -9,21 +9,22 @@ ghost use Rattle.region_shape.specs.Regions.{region_of, environment_of};
 ghost use Rattle.evaluator.specs.Outcomes.{stop_of};
 ghost use Rattle.evaluator.specs.steps.Within.{capped};
 ghost use Rattle.evaluator.specs.steps.Builds.{stopped_build};
-ghost use Rattle.evaluator.specs.steps.Steps.{Concludes, Performs, IsProgress};
+ghost use Rattle.evaluator.specs.steps.BuildTables.{build_of};
+ghost use Rattle.evaluator.specs.steps.Steps.{Performs, IsProgress};
 ghost use Rattle.semantics.specs.Quiet.{Stops};
 ghost use Rattle.machine.specs.declared.kinds.Stop.{Stop as Reason};
 
 use crate::build::BuildStore;
 use crate::outcome::{Halt, Refusal};
-use machine::effects::receive;
 use machine::execute::execute;
 use machine::kinds::{Actor, Conclusion, Stop};
+use machine::moving::{Left, conclude};
 use program::Program;
 use region_shape::regions::Regions;
 use std::alloc::{AllocError, Global};
 use vm_state::frame::{Frame, Segment};
 use vm_state::spares::Spares;
-use vm_state::value::{Fault, Maker, Value};
+use vm_state::value::Maker;
 
 /// A class's initializer, and what it runs over: its program, and the regions at hand.
 #[derive(Clone, Copy)]
@@ -49,6 +50,7 @@ pub enum Progress {
 #[tactic(auto, unfolding(machine::specs::Accesses::unless_refused))]
 fn perform<'a>(
     alloc: Global,
+    spares: &mut Spares,
     given: Initializer<'a>,
     store: &mut BuildStore<'a>,
     frame: &mut Frame,
@@ -57,7 +59,7 @@ fn perform<'a>(
     ensures performs { Performs
         (capped most (quiet_step (program_of given.entry.program.now) (environment_of given.entry.regions.now)
         given.entry.class frame.old (region_of store.old.own)))
-        frame.new (region_of store.new.own) store.new.made result }
+        (build_of store.new) frame.new result }
     ensures frame { Untouched result frame.old frame.new }
     ensures activity { frame.new.activity ≡ frame.old.activity }
 {
@@ -70,52 +72,7 @@ fn perform<'a>(
         thread: 0,
         maker: Maker::Class(given.class),
     };
-    let mut spares = Spares::none(alloc);
-    execute(alloc, &mut spares, given.program, by, frame, store)
-}
-
-/// A call: the frame of the method called stands on its caller, which loses the arguments.
-fn call(segment: &mut Segment, callee: Frame, arguments: usize) -> Result<Progress, AllocError>
-    ensures { IfOk result (λ progress. Concludes (Conclusion.Calls callee arguments) segment.old progress segment.new) }
-{
-    segment.innermost.cells.drop_many(arguments);
-    segment.call(callee)?;
-    Ok(Progress::On)
-}
-
-/// A return to the caller, where there is one.
-fn return_from(segment: &mut Segment, value: Option<Value>) -> Progress
-    ensures { Concludes (Conclusion.Returns value) segment.old result segment.new }
-{
-    let Some(caller) = segment.callers.pop() else {
-        return Progress::Over;
-    };
-    segment.innermost = caller;
-    match receive(&mut segment.innermost, value) {
-        Ok(()) => Progress::On,
-        Err(Fault) => Progress::Stopped(Halt::Refused(Refusal::Faulted)),
-    }
-}
-
-/// What the conclusion of an instruction makes of its frames.
-///
-/// # Errors
-/// `AllocError` where memory is refused to a call.
-fn conclude(segment: &mut Segment, conclusion: Conclusion) -> Result<Progress, AllocError>
-    ensures { IfOk result (λ progress. Concludes conclusion segment.old progress segment.new) }
-{
-    match conclusion {
-        Conclusion::Stays => Ok(Progress::On),
-        Conclusion::Becomes(frame) => {
-            segment.innermost = frame;
-            Ok(Progress::On)
-        }
-        Conclusion::Calls { callee, arguments } => call(segment, callee, arguments),
-        Conclusion::Returns(value) => Ok(return_from(segment, value)),
-        Conclusion::Prints { .. } => Ok(Progress::Stopped(Halt::Barred)),
-        Conclusion::Raises(..) => Ok(Progress::Stopped(Halt::Refused(Refusal::Raised))),
-        Conclusion::Halts(_) => Ok(Progress::Stopped(Halt::Refused(Refusal::Faulted))),
-    }
+    execute(alloc, spares, given.program, by, frame, store)
 }
 
 /// What stopped an instruction, as that of the initializer.
@@ -150,8 +107,18 @@ pub fn take_step<'a>(
         (environment_of given.entry.regions.now) given.entry.class (frames_of segment.old) (region_of store.old.own)
         (suc most) progress (frames_of segment.new) (region_of store.new.own) (most - store.new.made)) }
 {
-    match perform(alloc, given, store, &mut segment.innermost, most) {
-        Ok(conclusion) => conclude(segment, conclusion),
-        Err(stop) => Ok(Progress::Stopped(halted(stop)?)),
-    }
+    let mut spares = Spares::none(alloc);
+    let frame = &mut segment.innermost;
+    let conclusion = match perform(alloc, &mut spares, given, store, frame, most) {
+        Ok(conclusion) => conclusion,
+        Err(stop) => return Ok(Progress::Stopped(halted(stop)?)),
+    };
+    Ok(match conclude(&mut spares, segment, conclusion)? {
+        Left::Stands => Progress::On,
+        Left::Nothing => Progress::Over,
+        Left::Prints { .. } => Progress::Stopped(Halt::Barred),
+        Left::Raises(..) => Progress::Stopped(Halt::Refused(Refusal::Raised)),
+        Left::NoRoom(_) => Progress::Stopped(Halt::Refused(Refusal::Faulted)),
+        Left::Halts(_) => Progress::Stopped(Halt::Refused(Refusal::Faulted)),
+    })
 }

@@ -17,10 +17,7 @@ returns-clause-performs c =
     let own = region_of c.args.store.now.own in
     let f = c.args.frame.now in
     let r = row c.args.given.program.now f in
-    let s = build_of c.execute.new.store in
-    performs (within P env c.args.given.class c.args.most own 0) r
+    performs (within P env c.args.given.class c.args.most own 0) (build_of c.execute.new.store) r
     (capped c.args.most (quiet_step P env c.args.given.class f own))
     (within_capped P env c.args.given.class c.args.most r (row_makes c.args.given.program.now f) own 0
-    (omega arith))
-    s.program s.environment s.class s.most s.own s.made c.execute.new.frame c.execute.result
-    (c.execute.ensures.gives [])
+    (omega arith)) c.execute.new.frame c.execute.result (c.execute.ensures.gives [])

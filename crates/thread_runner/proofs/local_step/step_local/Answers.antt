@@ -13,7 +13,7 @@ use Rattle.thread_runner.specs.Fronts.{AreMembers}
 use Rattle.thread_runner.specs.Local.{frame_end, local_step}
 use Rattle.thread_runner.specs.steps.Asked.{over_asked}
 use Rattle.thread_runner.specs.steps.Ends.{IsLocalStep, IsTold}
-use Rattle.thread_runner.proofs.EndLemmas.{concluded_step, stopped_step, told}
+use Rattle.thread_runner.proofs.EndLemmas.{stopped_step, told}
 use Rattle.thread_runner.proofs.local_step.step_local.Goals as goal
 
 pub returns-in-Ok-clause-step : goal.returns-in-Ok-clause-step
@@ -23,18 +23,16 @@ returns-in-Ok-clause-step c =
     let ls = levels_of c.args.frames.now in
     let new = going c.go_on.new.frames in
     let s = c.in-Some.segment in
-    let g = c.execute.new.frame in
     let f = s.innermost in
     let is : c.args.frames.now.segment ≡ Some s = search rules in
     subst (λ (x : Option Segment). IfOk c.go_on.result (λ step. (done : List Bool) → AreMembers asked done
     → IsLocalStep asked done step (local_step P done (Going (frames_in x) ls)) (Going (frames_in x) ls) new))
     (sym is)
     (IfOk-weaker c.go_on.result _ _
-    (λ step went done members. concluded_step (frame_end P done f) f g s.callers ls asked
-    c.execute.new.store.classes.now done c.in-Ok.ensures.kept.activity c.in-Ok.conclusion step new
-    c.in-Ok.ensures.kept.frame
-    (subst (IsTold asked done (frame_end P done f)) (c.in-Ok.ensures.gives []) (told asked done members (row P f)))
-    went) c.go_on.ensures.went)
+    (λ step went done members. went f asked c.execute.new.store.classes.now done (frame_end P done f)
+    (sym c.in-Ok.ensures.kept.activity) c.in-Ok.ensures.kept.frame
+    (subst (IsTold asked done (frame_end P done f)) (c.in-Ok.ensures.gives []) (told asked done members (row P f))))
+    c.go_on.ensures.went)
 
 pub returns-in-Err-clause-step : goal.returns-in-Err-clause-step
 returns-in-Err-clause-step c =
@@ -42,7 +40,6 @@ returns-in-Err-clause-step c =
     let asked = c.args.asked.now in
     let ls = levels_of c.args.frames.now in
     let s = c.in-Some.segment in
-    let g = c.execute.new.frame in
     let f = s.innermost in
     let new = going c.stand.new.frames in
     let is : c.args.frames.now.segment ≡ Some s = search rules in
