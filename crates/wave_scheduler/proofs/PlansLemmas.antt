@@ -13,7 +13,7 @@ pub can_try : (terms : Terms) (waves : Rows) (n : ℕ) (wave : Wave) (first S : 
     → CanTry wave S t
 can_try terms waves n wave first S begun t all is before = record {
   judged = rw is.terms all.judged;
-  members = rw (is.terms, is.number, is.classes) (all.waves n);
+  members = rw (is.terms, is.number, is.classes) (all.members n);
   tried = rw (is.terms, is.number) before.tried;
   tainted = rw is.terms before.tainted;
 }

@@ -39,7 +39,7 @@ pub record CanTry (wave : Wave) (S : Settled) (t : Tainted) : Type 0 where
 -- so it is before the first wave, where all waves have these classes
 pub record CanTryAll (terms : Terms) (waves : Rows) (S : Settled) (t : Tainted) : Type 0 where
   pub judged : AreJudged terms.program.now terms.verdicts.now
-  pub waves : AreMembersOfAll terms.verdicts.now waves
+  pub members : AreMembersOfAll terms.verdicts.now waves
   pub tried : AreTriedBelow terms.program.now terms.budget terms.verdicts.now 0 S
   pub tainted : AreTainted terms.program.now S t
 

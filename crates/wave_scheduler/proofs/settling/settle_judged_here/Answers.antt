@@ -10,7 +10,7 @@ try_all_here-requires c =
     let (forced, are) = c.requires in
     record {
       judged = c.requires;
-      waves = rw c.as_slice.ensures.value c.in_ok-plan.ensures.waves;
+      members = rw c.as_slice.ensures.value c.in_ok-plan.ensures.waves;
       tried = waves_start_lem c.args.terms.program.now forced c.args.terms.budget c.args.terms.verdicts.now
           (settled_of c.in_ok-plan.plan.settled) are c.in_ok-plan.ensures.starts;
       tainted = c.in_ok-plan.ensures.tainted;
