@@ -3,8 +3,8 @@
 /// Asked by each thread before and after each stretch, outside the lock. `who` is the thread, and `job` the number of
 /// its commits so far that answered `Moved`.
 pub trait Gate: Sync {
-    /// Whether a thread may begin its stretch, where it was asked `earlier` times before.
-    fn ready(&self, who: u32, job: u64, earlier: u32) -> bool;
+    /// Whether a thread may begin its stretch, where it was asked `turn` times before.
+    fn ready(&self, who: u32, job: u64, turn: u32) -> bool;
 
     /// The stretch is made, and not yet committed.
     fn done(&self, who: u32, job: u64);
@@ -20,7 +20,7 @@ pub trait Gate: Sync {
 pub struct Open;
 
 impl Gate for Open {
-    fn ready(&self, _who: u32, _job: u64, _earlier: u32) -> bool {
+    fn ready(&self, _who: u32, _job: u64, _turn: u32) -> bool {
         true
     }
 
@@ -36,8 +36,8 @@ const MOST_ASKS: u32 = 1_000_000;
 
 /// Asks until the gate is ready.
 pub(crate) fn ask<G: Gate>(gate: &G, who: u32, job: u64) {
-    for earlier in 0..MOST_ASKS {
-        if gate.ready(who, job, earlier) {
+    for turn in 0..MOST_ASKS {
+        if gate.ready(who, job, turn) {
             return;
         }
     }

@@ -59,7 +59,8 @@ impl ClassState {
     /// Whether the class is ready for a thread: mostly it is initialized, which is asked first.
     #[inline(always)]
     fn is_ready(&self, thread: u32) -> bool
-        ensures { result ≡ true → usable thread self.now ≡ Usability.Ready }
+        ensures ready { result ≡ true → usable thread self.now ≡ Usability.Ready }
+        ensures known { usable thread self.now ≡ Usability.Ready → result ≡ true }
     {
         if let ClassState::Initialized = self {
             return true;
@@ -284,11 +285,13 @@ impl Classes {
         }
     }
 
-    /// Whether a class is ready for a thread; not where it must be initialized first, by this thread or another.
+    /// Whether a class is ready for a thread; not where it must be initialized first, by this thread or another, nor
+    /// where its initialization has failed.
     #[tactic(auto, unfolding(crate::specs::Statics::states_of))]
     #[inline(always)]
     pub fn is_ready(&self, class: u32, thread: u32) -> bool
-        ensures { result ≡ true → usable thread (states_of self.now class) ≡ Usability.Ready }
+        ensures ready { result ≡ true → usable thread (states_of self.now class) ≡ Usability.Ready }
+        ensures known { usable thread (states_of self.now class) ≡ Usability.Ready → result ≡ true }
     {
         match self.areas.get(class as usize) {
             Some(area) => area.state.is_ready(thread),

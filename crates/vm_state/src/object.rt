@@ -117,8 +117,8 @@ impl Slots {
         self.elements.brief_at(slot)
     }
 
-    /// How many there are, and the reference in a slot, if it is null or leads to an object. None where the slots are
-    /// held otherwise than mostly those are that hold references, or there is no such slot.
+    /// How many there are, and what a slot holds: as [`brief_at`](Slots::brief_at), quick where that is a reference. Of
+    /// another value it may answer none.
     #[inline(always)]
     pub fn reference_at(&self, slot: usize) -> Option<(usize, Value)>
         ensures count { IfSome result (λ r. r.0 ≡ length self.now) }

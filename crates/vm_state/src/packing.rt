@@ -98,19 +98,22 @@ fn counted_at(briefs: &[Brief], slot: usize) -> Option<(usize, Value)>
     }
 }
 
-/// The reference that this stands for, where it is null or leads to an object.
+/// The reference that this stands for, where it is null, or leads to an object or a text.
 #[inline(always)]
-fn reference_of(brief: Brief) -> Option<Value>
-    ensures { IfSome result (λ v. brief_value brief ≡ v) }
+fn reference_of(brief: &Brief) -> Option<Value>
+    ensures { IfSome result (λ v. brief_value brief.now ≡ v) }
 {
     if let Brief::OfThread(thread, number) = brief {
-        return Some(Value::OfThread(u32::from(thread), u64::from(number)));
+        return Some(Value::OfThread(u32::from(*thread), u64::from(*number)));
     }
     if let Brief::OfClass(class, number) = brief {
-        return Some(Value::OfClass(u32::from(class), u64::from(number)));
+        return Some(Value::OfClass(u32::from(*class), u64::from(*number)));
     }
     if let Brief::Null = brief {
         return Some(Value::Null);
+    }
+    if let Brief::Text(text) = brief {
+        return Some(Value::Text(*text as usize));
     }
     None
 }
@@ -122,7 +125,7 @@ fn counted_reference(briefs: &[Brief], slot: usize) -> Option<(usize, Value)>
     ensures value { IfSome result (λ r. slice_get (map brief_value briefs.now) slot ≡ Some r.1) }
 {
     match briefs.get(slot) {
-        Some(brief) => match reference_of(*brief) {
+        Some(brief) => match reference_of(brief) {
             Some(reference) => Some((briefs.len(), reference)),
             None => None,
         },
@@ -131,12 +134,15 @@ fn counted_reference(briefs: &[Brief], slot: usize) -> Option<(usize, Value)>
 }
 
 impl Elements {
-    /// As [`brief_at`](Elements::brief_at), quick where the value is null or leads to an object. None of another value.
+    /// As [`brief_at`](Elements::brief_at), quick where the value is a reference. Of another it may answer none.
     #[inline(always)]
     pub(crate) fn reference_at(&self, slot: usize) -> Option<(usize, Value)>
         ensures count { IfSome result (λ r. r.0 ≡ length (values_of self.now)) }
         ensures value { IfSome result (λ r. slice_get (values_of self.now) slot ≡ Some r.1) }
     {
+        if let Elements::Values(values) = self {
+            return counted_value(values.as_slice(), slot);
+        }
         if let Elements::Briefs(briefs) = self {
             return counted_reference(briefs.as_slice(), slot);
         }

@@ -56,12 +56,15 @@ impl Shared {
         self.classes.state(class)
     }
 
-    /// Whether a class is ready for a thread; not where it must be initialized first, by this thread or another.
+    /// Whether a class is ready for a thread; not where it must be initialized first, by this thread or another, nor
+    /// where its initialization has failed.
     #[tactic(auto, unfolding(crate::specs::Shares::shared_of))]
     #[inline(always)]
     pub fn is_ready(&self, class: u32, thread: u32) -> bool
-        ensures { (p : List Print) → result ≡ true → usable thread ((shared_of self.now p).states class)
+        ensures ready { (p : List Print) → result ≡ true → usable thread ((shared_of self.now p).states class)
             ≡ Usability.Ready }
+        ensures known { (p : List Print) → usable thread ((shared_of self.now p).states class) ≡ Usability.Ready →
+            result ≡ true }
     {
         self.classes.is_ready(class, thread)
     }

@@ -14,8 +14,8 @@ use std::alloc::{AllocError, Global};
 /// Asked by each worker before and after each class that it settles. `who` is the worker, from 0, and `job` the number
 /// of the class.
 pub trait Gate: Sync {
-    /// Whether a worker may begin a class, where it was asked `earlier` times before.
-    fn ready(&self, who: u32, job: u32, earlier: u32) -> bool;
+    /// Whether a worker may begin a class, where it was asked `turn` times before.
+    fn ready(&self, who: u32, job: u32, turn: u32) -> bool;
 
     /// Settles a class, as the evaluator does.
     ///
@@ -45,7 +45,7 @@ pub trait Gate: Sync {
 pub struct Open;
 
 impl Gate for Open {
-    fn ready(&self, _who: u32, _job: u32, _earlier: u32) -> bool {
+    fn ready(&self, _who: u32, _job: u32, _turn: u32) -> bool {
         true
     }
 
@@ -65,8 +65,8 @@ pub(crate) struct Worker<'a, G: Gate> {
 impl<'a, G: Gate> Worker<'a, G> {
     /// Asks the gate until it is ready for a class.
     pub(crate) fn ask(&self, class: u32) {
-        for earlier in 0..MOST_ASKS {
-            if self.gate.ready(self.who, class, earlier) {
+        for turn in 0..MOST_ASKS {
+            if self.gate.ready(self.who, class, turn) {
                 return;
             }
         }

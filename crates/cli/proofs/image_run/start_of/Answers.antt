@@ -9,5 +9,6 @@ returns-in-Ok c =
     let text : IsSomeTextOf c.args.bytes.items c.in-Ok.image =
     subst (λ (z : List ℕ). IsSomeTextOf z c.in-Ok.image) c.as_slice.ensures.value c.in-Ok.ensures.text in
     start_from_bytes (λ start. start.program) (λ start. world_of start.world) c.args.bytes.items c.args.list.now
-    c.in-Ok.image c.as_slice-in-Ok.result.now c.started.result (c.as_slice-in-Ok.ensures.value ∙ c.in_ok-entries.ensures) text
+    c.in-Ok.image c.as_slice-in-Ok.result.now c.started.result
+    (c.as_slice-in-Ok.ensures.value ∙ c.in_ok-entries.ensures) text
     c.started.ensures

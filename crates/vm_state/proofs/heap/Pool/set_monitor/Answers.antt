@@ -28,8 +28,12 @@ invariant_of-self c =
       | inl is ↦ still_free w c.set.new.self c.args.number count c.args.monitor is below c.self.invariant.2
       | inr same ↦
           subst (λ (v : List (ℕ × Monitor)). (k : ℕ) → count ≤ k → monitor_in v k ≡ Free) (sym same) c.self.invariant.2
-    ] in
-    (ascends_so w c.set.new.self 0 (numbers_in later kept) kept count c.self.invariant.0, c.self.invariant.1, free, c.self.invariant.3)
+    ] in (
+      ascends_so w c.set.new.self 0 (numbers_in later kept) kept count c.self.invariant.0,
+      c.self.invariant.1,
+      free,
+      c.self.invariant.3,
+    )
 
 pub returns-in-Some-clause-ok : goal.returns-in-Some-clause-ok
 returns-in-Some-clause-ok c =
