@@ -43,8 +43,8 @@ impl<'a, R: Clock> Meet<'a, R> {
 }
 
 impl<'a, R: Clock + Sync> Gate for Meet<'a, R> {
-    fn ready(&self, _who: u32, _job: u64, earlier: u32) -> bool {
-        if earlier > 0 || self.inside.fetch_add(1, Ordering::SeqCst) >= self.need {
+    fn ready(&self, _who: u32, _job: u64, turn: u32) -> bool {
+        if turn > 0 || self.inside.fetch_add(1, Ordering::SeqCst) >= self.need {
             return true;
         }
         for _ in 0..SLEEPS {
@@ -107,8 +107,8 @@ struct OpenMeet<'a, R: Clock> {
 }
 
 impl<'a, R: Clock + Sync> Gate for OpenMeet<'a, R> {
-    fn ready(&self, who: u32, job: u64, earlier: u32) -> bool {
-        self.meet.ready(who, job, earlier)
+    fn ready(&self, who: u32, job: u64, turn: u32) -> bool {
+        self.meet.ready(who, job, turn)
     }
 
     fn done(&self, _who: u32, _job: u64) {}
@@ -135,7 +135,7 @@ struct After<'a, R: Clock> {
 }
 
 impl<'a, R: Clock + Sync> Gate for After<'a, R> {
-    fn ready(&self, _who: u32, _job: u64, _earlier: u32) -> bool {
+    fn ready(&self, _who: u32, _job: u64, _turn: u32) -> bool {
         true
     }
 
@@ -180,7 +180,7 @@ impl<'a, R: Clock> Cross<'a, R> {
 }
 
 impl<'a, R: Clock + Sync> Gate for Cross<'a, R> {
-    fn ready(&self, who: u32, job: u64, _earlier: u32) -> bool {
+    fn ready(&self, who: u32, job: u64, _turn: u32) -> bool {
         if who == 0 && job == 1 {
             self.asked.store(1, Ordering::SeqCst);
             self.wait(&self.entered);
@@ -250,8 +250,8 @@ struct Both<'a, R: Clock> {
 }
 
 impl<'a, R: Clock + Sync> Gate for Both<'a, R> {
-    fn ready(&self, who: u32, job: u64, earlier: u32) -> bool {
-        job != self.job || self.meet.ready(who, job, earlier)
+    fn ready(&self, who: u32, job: u64, turn: u32) -> bool {
+        job != self.job || self.meet.ready(who, job, turn)
     }
 
     fn done(&self, _who: u32, _job: u64) {}

@@ -67,9 +67,9 @@ impl<'a, R: Clock> Meet<'a, R> {
 }
 
 impl<'a, R: Clock + Sync> Gate for Meet<'a, R> {
-    fn ready(&self, _who: u32, _job: u32, earlier: u32) -> bool {
+    fn ready(&self, _who: u32, _job: u32, turn: u32) -> bool {
         self.asked.fetch_add(1, Ordering::SeqCst);
-        earlier > 0
+        turn > 0
     }
 
     fn settle(
@@ -146,7 +146,7 @@ struct Poor {
 }
 
 impl Gate for Poor {
-    fn ready(&self, _who: u32, _job: u32, _earlier: u32) -> bool {
+    fn ready(&self, _who: u32, _job: u32, _turn: u32) -> bool {
         true
     }
 
