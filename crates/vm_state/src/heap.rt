@@ -309,17 +309,19 @@ impl Pool {
         if number < self.plain as u64 {
             return Some(&self.kept[number as usize]);
         }
-        self.searched(number)
+        kept_at(self.kept.as_slice(), self.searched_or_past(number))
     }
 
-    /// The object of a number, found by halving the pool.
+    /// The place of the object of a number, found by halving the pool; past the last place where it is not held.
     #[inline(never)]
-    fn searched(&self, number: u64) -> Option<&Kept>
-        ensures { option_copied result ≡ option_map kept_of (object_in self.now.objects number) }
+    fn searched_or_past(&self, number: u64) -> usize
+        ensures held { result < length self.now.objects
+            → IsSome (object_at_place self.now.objects result number) }
+        ensures none { length self.now.objects ≤ result → object_in self.now.objects number ≡ None }
     {
         match self.searched_place(number) {
-            Some(place) => Some(&self.kept[place]),
-            None => None,
+            Some(place) => place,
+            None => self.kept.len(),
         }
     }
 
