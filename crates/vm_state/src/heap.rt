@@ -312,6 +312,19 @@ impl Pool {
         kept_at(self.kept.as_slice(), self.searched_or_past(number))
     }
 
+    /// The place of the object of a number, mostly the number; past the last place where it is not held.
+    #[inline(always)]
+    fn place_or_past(&self, number: u64) -> usize
+        ensures held { result < length self.now.objects
+            → IsSome (object_at_place self.now.objects result number) }
+        ensures none { length self.now.objects ≤ result → object_in self.now.objects number ≡ None }
+    {
+        if number < self.plain as u64 {
+            return number as usize;
+        }
+        self.searched_or_past(number)
+    }
+
     /// The place of the object of a number, found by halving the pool; past the last place where it is not held.
     #[inline(never)]
     fn searched_or_past(&self, number: u64) -> usize
@@ -384,35 +397,10 @@ impl Pool {
         ensures some { IfSome result (λ n. pool_by self.new ≡ with_slot (pool_by self.old) number slot value) }
         ensures none { IfNone result (self.new ≡ self.old) }
     {
-        if number >= self.plain as u64 {
-            return self.put_searched(number, expected, packing, slot, value);
-        }
-        let held = &mut self.kept[number as usize];
-        if !held.class.is_expected(expected) {
+        let place = self.place_or_past(number);
+        if place >= self.kept.len() {
             return None;
         }
-        let count = held.slots.put_within(packing, slot, value)?;
-        Some(count)
-    }
-
-    /// As [`put_within`](Pool::put_within), of an object that is found by halving the pool.
-    #[inline(never)]
-    fn put_searched(
-        &mut self,
-        number: u64,
-        expected: Expected,
-        packing: Packing,
-        slot: usize,
-        value: Value,
-    ) -> Option<usize>
-        ensures slot { IfSome result (λ n. (slot < n) × (n < 2 ^ 31)) }
-        ensures form { IfSome result (λ n. form_at (pool_by self.old) number ≡ Some (expected_class expected, n)) }
-        ensures some { IfSome result (λ n. pool_by self.new ≡ with_slot (pool_by self.old) number slot value) }
-        ensures none { IfNone result (self.new ≡ self.old) }
-    {
-        let Some(place) = self.searched_place(number) else {
-            return None;
-        };
         let held = &mut self.kept[place];
         if !held.class.is_expected(expected) {
             return None;
