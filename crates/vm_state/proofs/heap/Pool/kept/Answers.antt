@@ -36,7 +36,8 @@ returns c =
     let size : length c.args.self.now.objects ≡ length kept =
     sym (ap (λ (r : HeldObjects). length r.objects) c.self.view_is)
     ∙ length_objects w numbers kept (length_numbers later kept c.self.invariant.1) in
-    let got : option_copied c.kept_at.result ≡ slice_get kept place = rw c.as_slice.ensures.value at c.kept_at.ensures in
+    let got : option_copied c.kept_at.result ≡ slice_get kept place =
+    rw c.as_slice.ensures.value at c.kept_at.ensures in
     got ∙ elim (below_or_not place (length c.args.self.now.objects)) [
       | inl h ↦ found_kept w numbers kept c.self.inside.count place c.args.number c.self.invariant.0
           (subst P (sym c.self.view_is) (c.searched_or_past.ensures.held h))

@@ -63,7 +63,8 @@ returns-clause-form c =
     let inside = inside_of c.self.inside.owners numbers kept c.place_or_past-place.result c.args.number there in
     let found : Some held ≡ option_map kept_of (object_in c.args.self.now.objects c.args.number) =
     sym (item_at kept c.place_or_past-place.result held inside c.index_mut-held.ensures.value)
-    ∙ found_kept c.self.inside.owners numbers kept c.self.inside.count c.place_or_past-place.result c.args.number c.self.invariant.0
+    ∙ found_kept c.self.inside.owners numbers kept c.self.inside.count c.place_or_past-place.result
+    c.args.number c.self.invariant.0
     there
     ∙ ap (λ (r : HeldObjects). option_map kept_of (object_in r.objects c.args.number)) c.self.view_is in
     form_of_kept (pool_by c.args.self.now) c.args.number held (expected_class c.args.expected) found

@@ -16,7 +16,8 @@ returns-in-Some-clause-none c h =
     (subst P (sym c.self.view_is) c.in-Some.ensures.held) in
     let all = length_numbers later kept c.self.invariant.1 in
     let size : length c.args.self.now.objects ≡ length kept =
-    sym (ap (λ (r : HeldObjects). length r.objects) c.self.view_is) ∙ length_objects w (numbers_in later kept) kept all in
+    sym (ap (λ (r : HeldObjects). length r.objects) c.self.view_is)
+    ∙ length_objects w (numbers_in later kept) kept all in
     absurd (omega (arith, inside, size, h))
 
 pub returns-in-None-clause-held : goal.returns-in-None-clause-held
@@ -26,6 +27,7 @@ returns-in-None-clause-held c h =
     let kept = c.self.inside.kept.items in
     let all = length_numbers later kept c.self.invariant.1 in
     let size : length c.args.self.now.objects ≡ length kept =
-    sym (ap (λ (r : HeldObjects). length r.objects) c.self.view_is) ∙ length_objects w (numbers_in later kept) kept all in
+    sym (ap (λ (r : HeldObjects). length r.objects) c.self.view_is)
+    ∙ length_objects w (numbers_in later kept) kept all in
     let count : c.len.result ≡ length kept = search rules in
     absurd (omega (arith, count, size, h))
