@@ -26,3 +26,4 @@ pub mod OneListOfSignaturesLemmas
 pub mod OneRuntimePoolLemmas
 pub mod OneImplementationLemmas
 pub mod OneProgramLemmas
+pub mod ZerosLemmas

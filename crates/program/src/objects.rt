@@ -8,7 +8,7 @@ ghost use Rattle.loading.specs.Families.{Family as Classes, IsFamily, AreParents
 ghost use Rattle.program.specs.InstanceFields.{is_instantiable_in, slots_of, slot_of, is_instance_field, kind_of};
 ghost use Rattle.program.specs.InstanceFields.{own_kinds_if};
 ghost use Rattle.program.specs.Programs.{zero_of};
-ghost use Rattle.program.specs.steps.Slots.{AreSlots};
+ghost use Rattle.program.specs.steps.Slots.{AreSlots, AreZeros};
 
 use crate::instance_fields::has_instances;
 use crate::linked_program::Program;
@@ -38,13 +38,49 @@ impl Program {
     pub fn zero_slots(&self, alloc: Global, class: u32) -> Result<Slots, AllocError>
         ensures { IfOk result (λ slots. slots ≡ map zero_of (slots_of self.now.family class)) }
     {
-        let count = self.slots.chain(class).count;
-        let mut slots = Vec::with_capacity(alloc, count as usize)?;
-        add_zeros(self.hierarchy.family(), &self.slots, class, &mut slots)?;
-        slots.reverse();
-        let packed = Slots::packed(alloc, slots.as_slice())?;
-        Ok(packed)
+        if let Some(zeros) = self.slots.zeros(class) {
+            let slots = zeros.copy(alloc)?;
+            return Ok(slots);
+        }
+        let slots = zeros_of(alloc, self.hierarchy.family(), &self.slots, class)?;
+        Ok(slots)
     }
+}
+
+/// What new objects of each class hold.
+pub(crate) fn zeros_of_all(
+    alloc: Global,
+    family: &Family,
+    tables: &SlotTable,
+) -> Result<Vec<Slots>, AllocError>
+    requires { AreSlots family.now tables.now }
+    ensures { IfOk result (λ zeros. AreZeros family.now zeros.items) }
+{
+    let count = family.classes().len();
+    let mut zeros = Vec::with_capacity(alloc, count)?;
+    for class in 0..count as u32 {
+        let slots = zeros_of(alloc, family, tables, class)?;
+        zeros.push(slots)?;
+    }
+    Ok(zeros)
+}
+
+/// What a new object of a class holds: zero or null in each slot.
+fn zeros_of(
+    alloc: Global,
+    family: &Family,
+    tables: &SlotTable,
+    class: u32,
+) -> Result<Slots, AllocError>
+    requires { AreSlots family.now tables.now }
+    ensures { IfOk result (λ slots. slots ≡ map zero_of (slots_of family.now class)) }
+{
+    let count = tables.chain(class).count;
+    let mut slots = Vec::with_capacity(alloc, count as usize)?;
+    add_zeros(family, tables, class, &mut slots)?;
+    slots.reverse();
+    let packed = Slots::packed(alloc, slots.as_slice())?;
+    Ok(packed)
 }
 
 /// Adds zero or null for each slot of a class, the last first.

@@ -1,7 +1,7 @@
 //! The slots of objects, in which they hold the values of their fields (JVMS 2.7).
 
-ghost use Rattle.std.specs.Prelude.{◌≡◌, ◌<◌, ◌≤◌, ◌^◌, ℕ, [], length, Some, IfOk, slice_index_or};
-ghost use Rattle.std.specs.Prelude.{if◌then◌else◌};
+ghost use Rattle.std.specs.Prelude.{◌≡◌, ◌<◌, ◌≤◌, ◌^◌, ℕ, [], length, Some, IfOk, slice_get, slice_index_or};
+ghost use Rattle.std.specs.Prelude.{if◌then◌else◌, option_copied};
 ghost use Rattle.loading.specs.declared.given.Superclass.TheVariants as super;
 ghost use Rattle.loading.specs.Families.{superclass_in};
 ghost use Rattle.program.specs.InstanceFields.{added_slots, slots_of, slots_before, built_in_kinds, is_enum};
@@ -9,12 +9,14 @@ ghost use Rattle.program.specs.steps.Slots.{AreAddedBy, IsChain, AreChains, AreS
 ghost use Rattle.program.specs.steps.Slots.{slots_if};
 
 use crate::instance_fields::{FieldKinds, added_slots_of, is_enum};
+use crate::objects::zeros_of_all;
 use crate::runtime_constant::FieldKind;
 use built_in::class_id::BuiltIn;
 use loading::family::Family;
 use loading::given::Superclass;
 use std::alloc::{AllocError, Global};
 use std::marker::Model;
+use vm_state::object::Slots;
 
 /// How many slots the objects of a class have, and which class is the nearest that adds some, itself or a superclass.
 #[derive(Clone, Copy)]
@@ -36,6 +38,8 @@ pub(crate) struct SlotTable {
     /// By class: those that it adds to those of its given superclass.
     added: Vec<FieldKinds>,
     chains: Vec<SlotChain>,
+    /// By class: what its objects hold as they are made.
+    zeros: Vec<Slots>,
 }
 
 impl Model for SlotTable {
@@ -43,7 +47,11 @@ impl Model for SlotTable {
 
     ghost Value = { SlotTables };
 
-    ghost view = { λ s. record { added = s.added.items; chains = s.chains.items } };
+    ghost view = { λ s. record {
+      added = s.added.items;
+      chains = s.chains.items;
+      zeros = s.zeros.items;
+    } };
 }
 
 // By hand, since a derived one is proved anew wherever they are let go.
@@ -52,6 +60,7 @@ impl Drop for SlotTable {
         let SlotTable {
             added: _,
             chains: _,
+            zeros: _,
         } = self;
     }
 }
@@ -62,7 +71,33 @@ impl SlotTable {
         ensures { IfOk result (AreSlots family.now) }
     {
         let added = added_slots_of(alloc, family.classes())?;
-        with_chains(alloc, family, added)
+        let tables = with_chains(alloc, family, added)?;
+        let zeros = zeros_of_all(alloc, family, &tables)?;
+        Ok(tables.with_zeros(zeros))
+    }
+
+    /// With what objects of the classes hold as they are made.
+    fn with_zeros(self, zeros: Vec<Slots>) -> SlotTable
+        ensures { result ≡ record self { zeros = zeros.items } }
+    {
+        let SlotTable {
+            added,
+            chains,
+            zeros: _,
+        } = self;
+        SlotTable {
+            added,
+            chains,
+            zeros,
+        }
+    }
+
+    /// What objects of a class hold as they are made, if that is known.
+    #[inline(always)]
+    pub(crate) fn zeros(&self, class: u32) -> Option<&Slots>
+        ensures { option_copied result ≡ slice_get self.now.zeros class }
+    {
+        self.zeros.get(class as usize)
     }
 
     /// The slots that a class adds to those of its given superclass.
@@ -126,7 +161,11 @@ fn with_chains(
     ensures { IfOk result (AreSlots family.now) }
 {
     match chains_of(alloc, family, added.as_slice()) {
-        Ok(chains) => Ok(SlotTable { added, chains }),
+        Ok(chains) => Ok(SlotTable {
+            added,
+            chains,
+            zeros: Vec::new(alloc),
+        }),
         Err(error) => Err(error),
     }
 }

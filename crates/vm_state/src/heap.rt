@@ -1,8 +1,7 @@
 //! The objects, by their names.
 
-ghost use Rattle.std.specs.Prelude.{◌≡◌, ℕ, ◌∷◌, [], ◌++◌, ◌<◌, ◌≤◌, ◌^◌, ◌+◌, length, get_or, slice_get, IfOk};
+ghost use Rattle.std.specs.Prelude.{◌≡◌, ℕ, ◌∷◌, [], ◌++◌, ◌<◌, ◌≤◌, ◌^◌, ◌+◌, length, slice_get, IfOk};
 ghost use Rattle.std.specs.Prelude.{OnOk, OnErr, IfSome, IfNone, IsSome, Some, None, option_copied, option_map};
-ghost use Rattle.std.specs.List.Sorted.{IsNonDecreasingBy};
 ghost use Rattle.vm_state.specs.Objects.{AscendsFrom, none_held, one_held, object_in, kept_of, numbered_kept};
 ghost use Rattle.vm_state.specs.steps.Objects.{with_next, with_monitor_in, object_at_place, numbers_of, objects_of};
 ghost use Rattle.vm_state.specs.steps.Objects.{IsKept};
@@ -17,6 +16,7 @@ use crate::kept::{Expected, Kept, KeptClass};
 use crate::object::{Monitor, Object, Slots};
 use crate::owners::Owners;
 use crate::packing::Packing;
+use crate::places::{kept_at, number_at, place_of};
 use crate::value::{Maker, Value};
 use built_in::class_id::ClassId;
 use std::alloc::{AllocError, Global};
@@ -53,63 +53,6 @@ impl Model for Pool {
         × (length s.later.items ≤ length s.kept.items)
         × ((k : ℕ) → s.count ≤ k → monitor_in s.owners k ≡ Free)
         × (s.plain ≡ length s.kept.items - length s.later.items) };
-}
-
-/// The number at a place: of the first `plain` it is the place, of the others it stands in a list.
-#[inline(always)]
-fn number_at(plain: usize, later: &[u64], place: usize) -> Option<u64>
-    ensures { result ≡ slice_get (numbers_of plain later.now) place }
-{
-    if place < plain {
-        Some(place as u64)
-    } else {
-        later_number(later, place - plain)
-    }
-}
-
-/// A number that stands in a list.
-fn later_number(later: &[u64], place: usize) -> Option<u64>
-    ensures { result ≡ slice_get later.now place }
-{
-    match later.get(place) {
-        Some(number) => Some(*number),
-        None => None,
-    }
-}
-
-/// The object at a place.
-#[inline(always)]
-fn kept_at(kept: &[Kept], place: usize) -> Option<&Kept>
-    ensures { option_copied result ≡ slice_get kept.now place }
-{
-    kept.get(place)
-}
-
-/// The first place of a number that is not below this one.
-#[inline(always)]
-fn place_of(plain: usize, later: &[u64], number: u64) -> usize
-    requires rising { IsNonDecreasingBy (λ (n : ℕ). n) later.now }
-    requires fits { plain + length later.now < 2 ^ 64 }
-    ensures before { (i : ℕ) (d : ℕ) → i < result → get_or (numbers_of plain later.now) i d < number }
-    ensures after { (d : ℕ) → result < plain + length later.now
-        → number ≤ get_or (numbers_of plain later.now) result d }
-{
-    if number < plain as u64 {
-        number as usize
-    } else {
-        plain + place_in(later, number)
-    }
-}
-
-/// The first place of a number that is not below this one.
-#[inline(never)]
-fn place_in(numbers: &[u64], number: u64) -> usize
-    requires { IsNonDecreasingBy (λ (n : ℕ). n) numbers.now }
-    ensures bound { result ≤ length numbers.now }
-    ensures before { (i : ℕ) (d : ℕ) → i < result → get_or numbers.now i d < number }
-    ensures after { (d : ℕ) → result < length numbers.now → number ≤ get_or numbers.now result d }
-{
-    numbers.partition_point(|held| *held < number)
 }
 
 /// Adds an object at the end.
@@ -363,9 +306,35 @@ impl Pool {
     fn kept(&self, number: u64) -> Option<&Kept>
         ensures { option_copied result ≡ option_map kept_of (object_in self.now.objects number) }
     {
-        match self.place(number) {
-            Some(place) => Some(&self.kept[place]),
-            None => None,
+        if number < self.plain as u64 {
+            return Some(&self.kept[number as usize]);
+        }
+        kept_at(self.kept.as_slice(), self.searched_or_past(number))
+    }
+
+    /// The place of the object of a number, mostly the number; past the last place where it is not held.
+    #[inline(always)]
+    fn place_or_past(&self, number: u64) -> usize
+        ensures held { result < length self.now.objects
+            → IsSome (object_at_place self.now.objects result number) }
+        ensures none { length self.now.objects ≤ result → object_in self.now.objects number ≡ None }
+    {
+        if number < self.plain as u64 {
+            return number as usize;
+        }
+        self.searched_or_past(number)
+    }
+
+    /// The place of the object of a number, found by halving the pool; past the last place where it is not held.
+    #[inline(never)]
+    fn searched_or_past(&self, number: u64) -> usize
+        ensures held { result < length self.now.objects
+            → IsSome (object_at_place self.now.objects result number) }
+        ensures none { length self.now.objects ≤ result → object_in self.now.objects number ≡ None }
+    {
+        match self.searched_place(number) {
+            Some(place) => place,
+            None => self.kept.len(),
         }
     }
 
@@ -428,9 +397,10 @@ impl Pool {
         ensures some { IfSome result (λ n. pool_by self.new ≡ with_slot (pool_by self.old) number slot value) }
         ensures none { IfNone result (self.new ≡ self.old) }
     {
-        let Some(place) = self.place(number) else {
+        let place = self.place_or_past(number);
+        if place >= self.kept.len() {
             return None;
-        };
+        }
         let held = &mut self.kept[place];
         if !held.class.is_expected(expected) {
             return None;

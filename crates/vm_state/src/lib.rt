@@ -15,6 +15,7 @@ pub mod object;
 pub mod output;
 mod owners;
 pub mod packing;
+mod places;
 pub mod shared;
 pub mod spares;
 pub mod text;

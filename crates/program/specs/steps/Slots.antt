@@ -1,5 +1,6 @@
 -- Slots of objects as tables.
-use Rattle.std.specs.Prelude.{◌≡◌, ℕ, ◌<◌, ◌^◌, List, [], ◌++◌, length, Option, Some, None, slice_get, slice_index_or}
+use Rattle.std.specs.Prelude.{◌≡◌, ℕ, ◌<◌, ◌^◌, List, [], ◌++◌, length, map, Option, Some, None, slice_get}
+use Rattle.std.specs.Prelude.{slice_index_or}
 use Rattle.std.specs.List.{AllZip}
 use Rattle.classfile.specs.ClassFile.{ClassFile}
 use Rattle.loading.specs.declared.given.GivenClass.{GivenClass}
@@ -9,6 +10,8 @@ use Rattle.loading.specs.Families.{Family, superclass_in}
 use Rattle.program.specs.declared.runtime_constant.FieldKind.{FieldKind}
 use Rattle.program.specs.declared.slots.SlotChain.{SlotChain}
 use Rattle.program.specs.InstanceFields.{own_kinds, built_in_kinds, added_slots, slots_of, slot_after, slot_of}
+use Rattle.program.specs.Programs.{zero_of}
+use Rattle.vm_state.specs.declared.value.Value.{Value}
 
 -- what a class adds to the slots of its given superclass; a class file has less than 65,536 fields
 pub record AreAdded (given : GivenClass) (kinds : List FieldKind) : Type 0 where
@@ -46,14 +49,21 @@ chain_in chains c = slice_index_or chains c no_chain
 abbrev pub AreChains : Family → List SlotChain → Type 0
 AreChains family chains = (c : ℕ) → IsChain family (slots_of family c) (chain_in chains c)
 
+-- by class, of the first ones: what its objects hold as they are made
+abbrev pub AreZeros : Family → List (List Value) → Type 0
+AreZeros family zeros = (c : ℕ) (slots : List Value) → slice_get zeros c ≡ Some slots
+    → slots ≡ map zero_of (slots_of family c)
+
 -- what is known of the slots of all classes
 pub record SlotTables : Type 0 where
   pub added : List (List FieldKind)
   pub chains : List SlotChain
+  pub zeros : List (List Value)
 
 pub record AreSlots (family : Family) (tables : SlotTables) : Type 0 where
   pub added : AreAddedBy family tables.added
   pub chains : AreChains family tables.chains
+  pub zeros : AreZeros family tables.zeros
 
 -- by field of a class: its slot
 abbrev pub AreFieldSlots : ℕ → ClassFile → List ℕ → Type 0

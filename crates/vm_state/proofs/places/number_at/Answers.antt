@@ -1,6 +1,6 @@
 use Rattle.std.proofs.Common.{◌∙◌, sym, rules}
 use Rattle.vm_state.proofs.KeptLemmas.{number_before, number_after}
-use Rattle.vm_state.proofs.heap.number_at.Goals as goal
+use Rattle.vm_state.proofs.places.number_at.Goals as goal
 
 pub returns-then-place-plain : goal.returns-then-place-plain
 returns-then-place-plain c =

@@ -1,6 +1,6 @@
 use Rattle.std.proofs.Common.{◌≡◌, ◌<◌, ◌≤◌, ◌-◌, ◌+◌, inl, inr, rules, arith}
 use Rattle.vm_state.proofs.KeptLemmas.{below_or_not, get_before, get_after}
-use Rattle.vm_state.proofs.heap.place_of.Goals as goal
+use Rattle.vm_state.proofs.places.place_of.Goals as goal
 
 pub returns-then-number-plain-clause-before : goal.returns-then-number-plain-clause-before
 returns-then-number-plain-clause-before c i d h =

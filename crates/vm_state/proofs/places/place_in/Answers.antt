@@ -1,6 +1,6 @@
 use Rattle.std.proofs.Common.{ltb, ltb-true, ltb-false, ℕ, arith, rules}
 use Rattle.std.proofs.lemmas.List.Sorted.{IsPartitionPoint-from_clause, IsPartitionedBy-ltb}
-use Rattle.vm_state.proofs.heap.place_in.Goals as goal
+use Rattle.vm_state.proofs.places.place_in.Goals as goal
 
 pub returns-clause-before : goal.returns-clause-before
 returns-clause-before c =
