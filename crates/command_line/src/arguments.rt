@@ -49,13 +49,13 @@ impl Argument {
                 value,
                 is_required,
                 help,
-            } => text(Arg::new(alloc, id), name, value, *is_required).help(help),
+            } => text(alloc, id, name, value, *is_required, help),
             Argument::Number {
                 name,
                 default,
                 numbers,
                 help,
-            } => number(Arg::new(alloc, name), name, default, *numbers).help(help),
+            } => number(alloc, name, default, *numbers, help),
             Argument::Word { id, value, help } => word(alloc, id, value, help),
             Argument::Files { help } => files(alloc, help),
         }
@@ -69,15 +69,34 @@ fn flag<'a>(alloc: Global, name: &'a str, help: &'a str) -> Arg<'a> {
         .help(help)
 }
 
-fn text<'a>(arg: Arg<'a>, name: &'a str, value: &'a str, is_required: bool) -> Arg<'a> {
-    arg.long(name).value_name(value).required(is_required)
+fn text<'a>(
+    alloc: Global,
+    id: &'a str,
+    name: &'a str,
+    value: &'a str,
+    is_required: bool,
+    help: &'a str,
+) -> Arg<'a> {
+    Arg::new(alloc, id)
+        .long(name)
+        .value_name(value)
+        .required(is_required)
+        .help(help)
 }
 
-fn number<'a>(arg: Arg<'a>, name: &'a str, default: &'a str, numbers: ValueParser<'a>) -> Arg<'a> {
-    arg.long(name)
+fn number<'a>(
+    alloc: Global,
+    name: &'a str,
+    default: &'a str,
+    numbers: ValueParser<'a>,
+    help: &'a str,
+) -> Arg<'a> {
+    Arg::new(alloc, name)
+        .long(name)
         .value_name("N")
         .default_value(default)
         .value_parser(numbers)
+        .help(help)
 }
 
 fn word<'a>(alloc: Global, id: &'a str, value: &'a str, help: &'a str) -> Arg<'a> {

@@ -232,10 +232,21 @@ fn described_program<'a>(alloc: Global) -> Command<'a> {
 fn with_commands<'a>(alloc: Global, program: Command<'a>) -> Result<Command<'a>, AllocError> {
     let mut program = program;
     for description in &COMMANDS {
-        let command = described(alloc, description);
-        program = program.subcommand(with_arguments(alloc, command, description.arguments)?)?;
+        program = with_command(alloc, program, description)?;
     }
     Ok(program)
+}
+
+fn with_command<'a>(
+    alloc: Global,
+    program: Command<'a>,
+    description: &Description,
+) -> Result<Command<'a>, AllocError> {
+    let command = described(alloc, description);
+    match with_arguments(alloc, command, description.arguments) {
+        Ok(command) => program.subcommand(command),
+        Err(error) => Err(error),
+    }
 }
 
 /// A command without its arguments.
