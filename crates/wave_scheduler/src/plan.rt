@@ -1,6 +1,6 @@
 //! What is known before the first wave.
 
-ghost use Rattle.std.specs.Prelude.{length, IfOk};
+ghost use Rattle.std.specs.Prelude.{◌≡◌, length, IfOk};
 ghost use Rattle.use_graph.specs.steps.Bodies.{IsUseGraph};
 ghost use Rattle.wave_scheduler.specs.Outcomes.{settled_of, AreJudged};
 ghost use Rattle.wave_scheduler.specs.steps.Waves.{StartsFrom};
@@ -47,7 +47,7 @@ impl Plan {
     ) -> Result<Settled, AllocError>
         requires uses { IsUseGraph program.now self.uses }
         requires count { length self.settled.verdicts ≡ length program.now.classes }
-        ensures { IfOk result (λ settled. GivesFirst program.now (settled_of self.entry.settled) (settled_of settled)) }
+        ensures { IfOk result (λ settled. GivesFirst program.now (settled_of self.settled) (settled_of settled)) }
     {
         let Plan {
             uses,
