@@ -3,6 +3,7 @@
 //! [`line`] reads the words after the program's name: a command and what they ask for, or a [`WordsFault`].
 #![tactic(auto)]
 
+mod arguments;
 mod commands;
 mod fault;
 mod matched;

@@ -1,9 +1,8 @@
 //! What words ask for, by the matches of `clap`.
 ghost use Rattle.std.specs.Prelude.{◌≡◌, IfOk, IfSome, codes};
 ghost use Rattle.clap.specs.Matches.{found_of};
-ghost use Rattle.command_line.specs.Requests.{AsksFor, Holds, HoldsAudit, HoldsBits, HoldsBuild, HoldsBuilding};
-ghost use Rattle.command_line.specs.Requests.{HoldsExplain, HoldsFlag, HoldsLazy, HoldsNumber, HoldsRenew, HoldsReplay};
-ghost use Rattle.command_line.specs.Requests.{HoldsRun, IsLine, texts, values_of};
+ghost use Rattle.command_line.specs.Requests.{AsksFor, Holds, HoldsBits, HoldsBuilding, HoldsFlag, HoldsNumber, IsLine};
+ghost use Rattle.command_line.specs.Requests.{texts, values_of};
 
 use crate::commands::program;
 use crate::parsed::fault_of;
@@ -65,29 +64,29 @@ fn asked_of<'a>(
     ensures { IfOk result (λ found. IfSome found (Holds name.now (found_of arguments.now))) }
 {
     match name {
-        "audit" => Ok(audit_of(alloc, arguments)?.map(Request::Audit)),
-        "build" => Ok(build_of(alloc, arguments)?.map(Request::Build)),
-        "explain" => Ok(explain_of(alloc, arguments)?.map(Request::Explain)),
-        "lazy" => Ok(lazy_of(alloc, arguments)?.map(Request::Lazy)),
-        "renew" => Ok(renew_of(arguments).map(Request::Renew)),
-        "replay" => Ok(replay_of(arguments).map(Request::Replay)),
-        "report" => Ok(building_of(alloc, arguments)?.map(Request::Report)),
-        "run" => Ok(run_of(arguments).map(Request::Run)),
+        "audit" => audit_of(alloc, arguments),
+        "build" => build_of(alloc, arguments),
+        "explain" => explain_of(alloc, arguments),
+        "lazy" => lazy_of(alloc, arguments),
+        "renew" => Ok(renew_of(arguments)),
+        "replay" => Ok(replay_of(arguments)),
+        "report" => report_of(alloc, arguments),
+        "run" => Ok(run_of(arguments)),
         _ => Ok(None),
     }
 }
 
-fn build_of<'a>(alloc: Global, matches: &ArgMatches<'a>) -> Result<Option<Build<'a>>, AllocError>
-    ensures { IfOk result (λ found. IfSome found (HoldsBuild (found_of matches.now))) }
+fn build_of<'a>(alloc: Global, matches: &ArgMatches<'a>) -> Result<Option<Request<'a>>, AllocError>
+    ensures { IfOk result (λ found. IfSome found (Holds (codes "build") (found_of matches.now))) }
 {
     match (matches.get_str("out"), count_of(matches, "workers")) {
         (Some(image), Some(workers)) => match building_of(alloc, matches)? {
-            Some(building) => Ok(Some(Build {
+            Some(building) => Ok(Some(Request::Build(Build {
                 image,
                 report: matches.get_str("report"),
                 building,
                 workers,
-            })),
+            }))),
             None => Ok(None),
         },
         _ => Ok(None),
@@ -114,16 +113,25 @@ fn building_of<'a>(
     }
 }
 
-fn audit_of<'a>(alloc: Global, matches: &ArgMatches<'a>) -> Result<Option<Audit<'a>>, AllocError>
-    ensures { IfOk result (λ found. IfSome found (HoldsAudit (found_of matches.now))) }
+fn audit_of<'a>(alloc: Global, matches: &ArgMatches<'a>) -> Result<Option<Request<'a>>, AllocError>
+    ensures { IfOk result (λ found. IfSome found (Holds (codes "audit") (found_of matches.now))) }
 {
     let files = files_of(alloc, matches)?;
     match matches.get_str("entries") {
-        Some(entries) => Ok(Some(Audit {
+        Some(entries) => Ok(Some(Request::Audit(Audit {
             entries,
             files,
             verbose: flag_of(matches, "verbose"),
-        })),
+        }))),
+        None => Ok(None),
+    }
+}
+
+fn report_of<'a>(alloc: Global, matches: &ArgMatches<'a>) -> Result<Option<Request<'a>>, AllocError>
+    ensures { IfOk result (λ found. IfSome found (Holds (codes "report") (found_of matches.now))) }
+{
+    match building_of(alloc, matches)? {
+        Some(building) => Ok(Some(Request::Report(building))),
         None => Ok(None),
     }
 }
@@ -131,50 +139,53 @@ fn audit_of<'a>(alloc: Global, matches: &ArgMatches<'a>) -> Result<Option<Audit<
 fn explain_of<'a>(
     alloc: Global,
     matches: &ArgMatches<'a>,
-) -> Result<Option<Explain<'a>>, AllocError>
-    ensures { IfOk result (λ found. IfSome found (HoldsExplain (found_of matches.now))) }
+) -> Result<Option<Request<'a>>, AllocError>
+    ensures { IfOk result (λ found. IfSome found (Holds (codes "explain") (found_of matches.now))) }
 {
     match matches.get_str("class") {
-        Some(class) => Ok(building_of(alloc, matches)?.map(|building| Explain { class, building })),
+        Some(class) => match building_of(alloc, matches)? {
+            Some(building) => Ok(Some(Request::Explain(Explain { class, building }))),
+            None => Ok(None),
+        },
         None => Ok(None),
     }
 }
 
-fn lazy_of<'a>(alloc: Global, matches: &ArgMatches<'a>) -> Result<Option<Lazy<'a>>, AllocError>
-    ensures { IfOk result (λ found. IfSome found (HoldsLazy (found_of matches.now))) }
+fn lazy_of<'a>(alloc: Global, matches: &ArgMatches<'a>) -> Result<Option<Request<'a>>, AllocError>
+    ensures { IfOk result (λ found. IfSome found (Holds (codes "lazy") (found_of matches.now))) }
 {
     let files = files_of(alloc, matches)?;
     match (matches.get_str("entries"), number_of(matches, "limit")) {
-        (Some(entries), Some(limit)) => Ok(Some(Lazy {
+        (Some(entries), Some(limit)) => Ok(Some(Request::Lazy(Lazy {
             entries,
             limit,
             stacks: flag_of(matches, "stacks"),
             files,
             verbose: flag_of(matches, "verbose"),
-        })),
+        }))),
         _ => Ok(None),
     }
 }
 
-fn renew_of<'a>(matches: &ArgMatches<'a>) -> Option<Renew<'a>>
-    ensures { IfSome result (HoldsRenew (found_of matches.now)) }
+fn renew_of<'a>(matches: &ArgMatches<'a>) -> Option<Request<'a>>
+    ensures { IfSome result (Holds (codes "renew") (found_of matches.now)) }
 {
     let new = matches.get_str("out")?;
     let image = matches.get_str("image")?;
-    Some(Renew {
+    Some(Request::Renew(Renew {
         new,
         image,
         verbose: flag_of(matches, "verbose"),
-    })
+    }))
 }
 
-fn run_of<'a>(matches: &ArgMatches<'a>) -> Option<Run<'a>>
-    ensures { IfSome result (HoldsRun (found_of matches.now)) }
+fn run_of<'a>(matches: &ArgMatches<'a>) -> Option<Request<'a>>
+    ensures { IfSome result (Holds (codes "run") (found_of matches.now)) }
 {
     let entries = matches.get_str("entries")?;
     let limit = number_of(matches, "limit")?;
     let image = matches.get_str("image")?;
-    Some(Run {
+    Some(Request::Run(Run {
         entries,
         limit,
         turns: flag_of(matches, "turns"),
@@ -182,22 +193,22 @@ fn run_of<'a>(matches: &ArgMatches<'a>) -> Option<Run<'a>>
         journal: matches.get_str("journal"),
         image,
         verbose: flag_of(matches, "verbose"),
-    })
+    }))
 }
 
-fn replay_of<'a>(matches: &ArgMatches<'a>) -> Option<Replay<'a>>
-    ensures { IfSome result (HoldsReplay (found_of matches.now)) }
+fn replay_of<'a>(matches: &ArgMatches<'a>) -> Option<Request<'a>>
+    ensures { IfSome result (Holds (codes "replay") (found_of matches.now)) }
 {
     let entries = matches.get_str("entries")?;
     let journal = matches.get_str("journal")?;
     let image = matches.get_str("image")?;
-    Some(Replay {
+    Some(Request::Replay(Replay {
         entries,
         stacks: flag_of(matches, "stacks"),
         journal,
         image,
         verbose: flag_of(matches, "verbose"),
-    })
+    }))
 }
 
 /// Whether a flag was used.

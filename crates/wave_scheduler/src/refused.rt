@@ -1,7 +1,6 @@
 //! Which classes use one that is not accepted.
 
 ghost use Rattle.std.specs.Prelude.{◌≡◌, length, map, IfOk, OnOk};
-ghost use Rattle.graph.specs.Components.{AreComponents};
 ghost use Rattle.use_graph.specs.steps.Bodies.{IsUseGraph};
 ghost use Rattle.wave_scheduler.specs.Outcomes.{outcome_of, settled_of};
 ghost use Rattle.wave_scheduler.specs.steps.Waves.{dependent, HasFirst};
@@ -9,7 +8,7 @@ ghost use Rattle.wave_scheduler.specs.steps.Finding.{is_refused, AreFirstIn, Giv
 ghost use Rattle.wave_scheduler.specs.steps.Plans.{GivesFirst};
 
 use crate::outcome::Settled;
-use graph::Components;
+use graph::components_of;
 use initializer_analysis::first_refused;
 use initializer_analysis::verdict::{Reason, Verdict, Verdicts};
 use program::Program;
@@ -42,16 +41,15 @@ fn first_in(
     alloc: Global,
     program: &Program,
     uses: &UseGraph,
-    calls: &Components,
     settled: &Settled,
 ) -> Result<Vec<Option<u32>>, AllocError>
     requires uses { IsUseGraph program.now uses.now }
-    requires calls { AreComponents uses.now.calls calls.now }
     requires count { length settled.now.verdicts ≡ length program.now.classes }
     ensures { IfOk result (λ first. AreFirstIn program.now (settled_of settled.now) first.items) }
 {
     let flags = refused_flags(alloc, settled.verdicts.as_slice())?;
-    first_refused(alloc, program, uses, calls, flags.as_slice())
+    let calls = components_of(alloc, &uses.calls)?;
+    first_refused(alloc, program, uses, &calls, flags.as_slice())
 }
 
 /// The verdict on a class, where this is the first refused class that it uses.
@@ -93,16 +91,14 @@ pub(crate) fn give_first_refused(
     alloc: Global,
     program: &Program,
     uses: &UseGraph,
-    calls: &Components,
     settled: &mut Settled,
 ) -> Result<(), AllocError>
     requires uses { IsUseGraph program.now uses.now }
-    requires calls { AreComponents uses.now.calls calls.now }
     requires count { length settled.old.verdicts ≡ length program.now.classes }
     ensures { OnOk result (GivesFirst program.now (settled_of settled.old) (settled_of settled.new)) }
 {
     let count = program.given_count();
-    let first = first_in(alloc, program, uses, calls, settled)?;
+    let first = first_in(alloc, program, uses, settled)?;
     give_first(first.as_slice(), count, settled);
     Ok(())
 }

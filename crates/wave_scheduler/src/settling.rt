@@ -13,7 +13,6 @@ ghost use Rattle.wave_scheduler.specs.declared.outcome.WaveFault.TheVariants.{Me
 use crate::gate::{Gate, Worker};
 use crate::outcome::{Settled, WaveFault};
 use crate::plan::plan_of;
-use crate::refused::give_first_refused;
 use crate::wave::Terms;
 use crate::waves::{try_all, try_all_here};
 use initializer_analysis::verdict::Verdicts;
@@ -36,14 +35,7 @@ fn settle_judged_here(alloc: Global, terms: Terms<'_>) -> Result<Settled, AllocE
         &mut plan.tainted,
         &mut plan.settled,
     )?;
-    give_first_refused(
-        alloc,
-        terms.program,
-        &plan.uses,
-        &plan.calls,
-        &mut plan.settled,
-    )?;
-    Ok(plan.settled)
+    plan.into_settled(alloc, terms.program)
 }
 
 /// Settles all classes by workers.
@@ -67,14 +59,7 @@ fn settle_judged<G: Gate, R: Threads + Wait + Sync>(
         &mut plan.tainted,
         &mut plan.settled,
     )?;
-    give_first_refused(
-        alloc,
-        terms.program,
-        &plan.uses,
-        &plan.calls,
-        &mut plan.settled,
-    )?;
-    Ok(plan.settled)
+    plan.into_settled(alloc, terms.program)
 }
 
 /// Settles all classes of a program on this thread, wave by wave, from their verdicts: runs the initializer of each

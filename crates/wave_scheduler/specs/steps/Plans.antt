@@ -1,6 +1,5 @@
 -- What is known before each wave, and what the last one leaves to be told.
 use Rattle.std.specs.Prelude.{◌≡◌, ℕ, List, Option}
-use Rattle.graph.specs.Components.{AreComponents}
 use Rattle.graph.specs.Rows.{Rows, rows_of}
 use Rattle.program.specs.Tables.{Tables}
 use Rattle.use_graph.specs.steps.Bodies.{IsUseGraph}
@@ -19,7 +18,6 @@ use Rattle.wave_scheduler.specs.steps.WaveMembers.{AreMembers, AreMembersOfAll, 
 -- the uses of a program, its waves, and all classes as their verdicts say
 pub record IsPlan (P : Tables) (judged : List Verdict) (plan : Plan) : Type 0 where
   pub uses : IsUseGraph P plan.uses
-  pub calls : AreComponents plan.uses.calls plan.calls
   pub waves : AreMembersOfAll judged (rows_of plan.waves.items)
   pub starts : StartsFrom judged (settled_of plan.settled)
   pub tainted : AreTainted P (settled_of plan.settled) plan.tainted

@@ -1,5 +1,6 @@
 use Rattle.std.proofs.Common.{sym, ◌∙◌}
 use Rattle.std.proofs.lemmas.List.{length-map}
+use Rattle.std.proofs.lemmas.Result.{IfOk-weaker}
 use Rattle.wave_scheduler.specs.Outcomes.{outcome_of, settled_of}
 use Rattle.wave_scheduler.proofs.TriesLemmas.{waves_start_lem}
 use Rattle.wave_scheduler.proofs.CrewsLemmas.{all_follow}
@@ -16,13 +17,14 @@ try_all_here-requires c =
       tainted = c.in_ok-plan.ensures.tainted;
     }
 
-pub give_first_refused-requires-clause-count : goal.give_first_refused-requires-clause-count
-give_first_refused-requires-clause-count c =
+pub into_settled-requires-clause-count : goal.into_settled-requires-clause-count
+into_settled-requires-clause-count c =
     sym (length-map c.try_all_here.new.settled.verdicts outcome_of) ∙ c.in_ok-try_all_here.ensures.count
 
 pub returns : goal.returns
 returns c =
-    all_follow c.args.terms.program.now c.args.terms.budget c.args.terms.verdicts.now c.in_ok-plan.plan.waves.items
-    (settled_of c.try_all_here.new.settled) (settled_of c.give_first_refused.new.settled) c.requires
-    c.in_ok-plan.ensures.waves (rw c.as_slice.ensures.value at c.in_ok-try_all_here.ensures)
-    c.in_ok-give_first_refused.ensures
+    IfOk-weaker c.into_settled.result _ _
+    (λ settled first. all_follow c.args.terms.program.now c.args.terms.budget c.args.terms.verdicts.now
+    c.in_ok-plan.plan.waves.items (settled_of c.try_all_here.new.settled) (settled_of settled) c.requires
+    c.in_ok-plan.ensures.waves (rw c.as_slice.ensures.value at c.in_ok-try_all_here.ensures) first)
+    c.into_settled.ensures
