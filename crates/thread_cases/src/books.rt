@@ -4,6 +4,7 @@ ghost use Rattle.std.specs.Prelude.{◌≡◌, ◌<◌, length};
 ghost use Rattle.init_engine.specs.Turns.{world_of};
 
 use crate::programs::{M, SPIN, SQ, program_of, start_with};
+use crate::shown::steps_in;
 use init_engine::World;
 use journal::Journal;
 use program::Program;
@@ -39,15 +40,6 @@ enum Made<O: Origin> {
 struct Commits {
     steps: Vec<u64>,
     text: Vec<u8>,
-}
-
-/// How many steps a journal has.
-fn steps_in(runs: &[(u32, u64)]) -> u64 {
-    let mut sum = 0u64;
-    for run in runs {
-        sum = sum.wrapping_add(run.1);
-    }
-    sum
 }
 
 /// The text of a book's journal.
@@ -155,8 +147,12 @@ fn commits_of(
     kind: StretchKind,
     known: bool,
 ) -> Result<Commits, Fail> {
-    let program = program_of(alloc, text)?;
-    let world = start_with(alloc, &program, &[entry], initialized)?;
+    let Some(program) = program_of(alloc, &[text])? else {
+        return Err(Fail::new("no program"));
+    };
+    let Some(world) = start_with(alloc, &program, &[entry], initialized)? else {
+        return Err(Fail::new("no start"));
+    };
     commits_in::<Brand>(alloc, &program, world, kind, known)
 }
 
@@ -254,8 +250,12 @@ fn counts_once<R: AllocGlobal + Abort>(
     later: bool,
     journal: &[u8],
 ) -> Result<(), Fail> {
-    let program = program_of(rt.alloc(), text)?;
-    let world = start_with(rt.alloc(), &program, &[entry], &[entry])?;
+    let Some(program) = program_of(rt.alloc(), &[text])? else {
+        return Err(Fail::new("no program"));
+    };
+    let Some(world) = start_with(rt.alloc(), &program, &[entry], &[entry])? else {
+        return Err(Fail::new("no start"));
+    };
     if world.thread_count() == 0 {
         return Err(Fail::new("no thread"));
     }
@@ -304,10 +304,16 @@ fn commit_over<O: Origin>(
 
 /// What the second stretch answers over classes that are initialized in another start alone, and the journal's text.
 fn commit_over_another_start(alloc: Global, kind: StretchKind) -> Result<(Commit, Vec<u8>), Fail> {
-    let program = program_of(alloc, SQ)?;
-    let both = start_with(alloc, &program, &["Main21"], &["Sq", "Main21"])?;
+    let Some(program) = program_of(alloc, &[SQ])? else {
+        return Err(Fail::new("no program"));
+    };
+    let Some(both) = start_with(alloc, &program, &["Main21"], &["Sq", "Main21"])? else {
+        return Err(Fail::new("no start"));
+    };
     let done = done_in::<Brand>(alloc, &program, both)?;
-    let world = start_with(alloc, &program, &["Main21"], &["Main21"])?;
+    let Some(world) = start_with(alloc, &program, &["Main21"], &["Main21"])? else {
+        return Err(Fail::new("no start"));
+    };
     if world.thread_count() == 0 {
         return Err(Fail::new("no thread"));
     }
