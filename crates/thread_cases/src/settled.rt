@@ -74,13 +74,18 @@ fn told(alloc: Global, answer: Result<Settled, WaveFault>) -> Result<String, All
 
 fn words_of(alloc: Global, settled: &Settled) -> Result<String, AllocError> {
     let mut words = String::new(alloc);
-    for (class, verdict) in settled.verdicts.as_slice().iter().enumerate() {
-        match (verdict, number_of(settled, class as u32)) {
-            (Verdict::Wave(wave), Some(number)) => write!(words, "{wave}:{number} ")?,
-            _ => words.push_str("none ")?,
-        }
+    let count = u32::try_from(settled.verdicts.as_slice().len()).unwrap_or(0);
+    for class in 0..count {
+        add_word(&mut words, settled, class)?;
     }
     Ok(words)
+}
+
+fn add_word(words: &mut String, settled: &Settled, class: u32) -> Result<(), AllocError> {
+    match (settled.verdicts.of_class(class), number_of(settled, class)) {
+        (Some(Verdict::Wave(wave)), Some(number)) => write!(words, "{wave}:{number} "),
+        _ => words.push_str("none "),
+    }
 }
 
 /// The number that the first static field of a class holds, if it is accepted.
