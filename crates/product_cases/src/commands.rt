@@ -147,15 +147,21 @@ fn of_part(alloc: Global, shelf: &Shelf, asked: &str) -> Result<String, AllocErr
 fn request(alloc: Global, text: &str) -> Result<String, AllocError> {
     let words = words_of(alloc, text)?;
     match line(alloc, &words) {
-        Ok(Request::Audit(audit)) => audit_text(alloc, &audit),
-        Ok(Request::Build(build)) => build_text(alloc, &build),
-        Ok(Request::Explain(explain)) => explain_text(alloc, &explain),
-        Ok(Request::Lazy(lazy)) => lazy_text(alloc, &lazy),
-        Ok(Request::Report(building)) => building_text(alloc, "report", &building),
-        Ok(Request::Renew(renew)) => renew_text(alloc, &renew),
-        Ok(Request::Replay(replay)) => replay_text(alloc, &replay),
-        Ok(Request::Run(run)) => run_text(alloc, &run),
+        Ok(request) => request_text(alloc, &request),
         Err(_) => String::from_str(alloc, "no command"),
+    }
+}
+
+fn request_text(alloc: Global, request: &Request<'_>) -> Result<String, AllocError> {
+    match request {
+        Request::Audit(audit) => audit_text(alloc, audit),
+        Request::Build(build) => build_text(alloc, build),
+        Request::Explain(explain) => explain_text(alloc, explain),
+        Request::Lazy(lazy) => lazy_text(alloc, lazy),
+        Request::Report(building) => building_text(alloc, "report", building),
+        Request::Renew(renew) => renew_text(alloc, renew),
+        Request::Replay(replay) => replay_text(alloc, replay),
+        Request::Run(run) => run_text(alloc, run),
     }
 }
 
