@@ -6,7 +6,7 @@ use std::test::*;
 use wave_scheduler::Open;
 
 /// A class of the first wave and one of the second, one that prints and one that uses it, and one that raises.
-const SEVERAL: &str = "class A: static v:I, initializer 8 8 bipush 5 putstatic A.v:I return
+const SEVERAL: &str = "class A: static final v:I, initializer 8 8 bipush 5 putstatic A.v:I return
 class B: static v:I, initializer 8 8 getstatic A.v:I bipush 1 iadd putstatic B.v:I return
 class P: static v:I, initializer 8 8 out bipush 7 println return
 class Q: static v:I, initializer 8 8 getstatic P.v:I putstatic Q.v:I return
