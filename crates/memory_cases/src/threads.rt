@@ -27,7 +27,7 @@ const MANY: u64 = 100_000;
 struct Asked;
 
 impl Gate for Asked {
-    fn ready(&self, _who: u32, _job: u64, _earlier: u32) -> bool {
+    fn ready(&self, _who: u32, _job: u64, _turn: u32) -> bool {
         true
     }
 

@@ -17,51 +17,65 @@ pub fn words_of<'a>(alloc: Global, text: &'a str) -> Result<Vec<&'a str>, AllocE
     Ok(words)
 }
 
-/// What a command answers: the status, and between brackets what standard output and what standard error got.
-pub fn answer<R: Threads + Wait + Sync>(
-    rt: &R,
-    alloc: Global,
-    shelf: &mut Shelf,
-    text: &str,
-) -> Result<String, AllocError> {
-    let words = words_of(alloc, text)?;
-    let mut errors = Vec::new(alloc);
-    let (status, out) = command(rt, alloc, &words, shelf, Vec::new(alloc), &mut errors);
-    answer_text(alloc, status, &out, &errors)
+/// After how many bytes the two streams of a command fail.
+#[derive(Clone, Copy)]
+pub struct Rooms {
+    pub out: usize,
+    pub errors: usize,
 }
 
-fn answer_text(alloc: Global, status: u8, out: &[u8], errors: &[u8]) -> Result<String, AllocError> {
-    let out = from_utf8(out).unwrap_or("no text");
-    let errors = from_utf8(errors).unwrap_or("no text");
-    format!(in alloc; "{status} [{out}] [{errors}]")
+/// Where neither fails.
+pub const ROOMY: Rooms = Rooms {
+    out: usize::MAX,
+    errors: usize::MAX,
+};
+
+/// What a command answers: its status, and what standard output and standard error got.
+#[derive(Drop)]
+pub struct CommandAnswer {
+    pub status: u8,
+    pub out: Vec<u8>,
+    pub errors: Vec<u8>,
 }
 
-/// Does a command, whatever it answers.
+/// Does a command.
 pub fn done<R: Threads + Wait + Sync>(
     rt: &R,
     alloc: Global,
     shelf: &mut Shelf,
     text: &str,
-) -> Result<(), AllocError> {
+    rooms: Rooms,
+) -> Result<CommandAnswer, AllocError> {
     let words = words_of(alloc, text)?;
-    let mut errors = Vec::new(alloc);
-    let (_status, _out) = command(rt, alloc, &words, shelf, Vec::new(alloc), &mut errors);
-    Ok(())
+    let out = Narrow::new(alloc, rooms.out);
+    let mut errors = Narrow::new(alloc, rooms.errors);
+    let (status, out) = command(rt, alloc, &words, shelf, out, &mut errors);
+    Ok(CommandAnswer {
+        status,
+        out: out.got,
+        errors: errors.got,
+    })
 }
 
-/// The status of a command whose standard output has so much room, and between brackets what the file of a name holds
-/// after it.
-pub fn file_after<R: Threads + Wait + Sync>(
-    rt: &R,
+/// The status, and between brackets what both streams got.
+pub fn answer_text(
     alloc: Global,
-    shelf: &mut Shelf,
-    name: &str,
-    room: usize,
-    text: &str,
+    status: u8,
+    out: &[u8],
+    errors: &[u8],
 ) -> Result<String, AllocError> {
-    let words = words_of(alloc, text)?;
-    let mut errors = Vec::new(alloc);
-    let (status, _out) = command(rt, alloc, &words, shelf, Narrow { room }, &mut errors);
+    let out = from_utf8(out).unwrap_or("no text");
+    let errors = from_utf8(errors).unwrap_or("no text");
+    format!(in alloc; "{status} [{out}] [{errors}]")
+}
+
+/// The status, and between brackets what the file of a name holds.
+pub fn file_text(
+    alloc: Global,
+    status: u8,
+    shelf: &Shelf,
+    name: &str,
+) -> Result<String, AllocError> {
     match shelf.find(name) {
         Some(bytes) => {
             let held = from_utf8(bytes).unwrap_or("no text");
@@ -71,18 +85,14 @@ pub fn file_after<R: Threads + Wait + Sync>(
     }
 }
 
-/// The status of a command, and `same` where two files are there and hold the same bytes after it, or else `others`.
-pub fn same_after<R: Threads + Wait + Sync>(
-    rt: &R,
+/// The status, and `same` where two files are there and hold the same bytes, or else `others`.
+pub fn same_text(
     alloc: Global,
-    shelf: &mut Shelf,
+    status: u8,
+    shelf: &Shelf,
     name: &str,
     other: &str,
-    text: &str,
 ) -> Result<String, AllocError> {
-    let words = words_of(alloc, text)?;
-    let mut errors = Vec::new(alloc);
-    let (status, _out) = command(rt, alloc, &words, shelf, Vec::new(alloc), &mut errors);
     let found = match (shelf.find(name), shelf.find(other)) {
         (Some(one), Some(another)) if one == another => "same",
         _ => "others",
@@ -90,67 +100,31 @@ pub fn same_after<R: Threads + Wait + Sync>(
     format!(in alloc; "{status} {found}")
 }
 
-/// What a command writes to standard output, or, where that is nothing, to standard error.
-pub fn output<R: Threads + Wait + Sync>(
-    rt: &R,
-    alloc: Global,
-    shelf: &mut Shelf,
-    text: &str,
-) -> Result<String, AllocError> {
-    let words = words_of(alloc, text)?;
-    let mut errors = Vec::new(alloc);
-    let (_status, out) = command(rt, alloc, &words, shelf, Vec::new(alloc), &mut errors);
-    let shown = if out.is_empty() { &errors } else { &out };
+/// What went to standard output, or, where that is nothing, to standard error.
+pub fn output_text(alloc: Global, done: &CommandAnswer) -> Result<String, AllocError> {
+    let shown = if done.out.is_empty() {
+        &done.errors
+    } else {
+        &done.out
+    };
     String::from_str(alloc, from_utf8(shown).unwrap_or("no text"))
 }
 
-/// What a command answers whose standard output has so much room.
-pub fn with_output<R: Threads + Wait + Sync>(
-    rt: &R,
-    alloc: Global,
-    shelf: &mut Shelf,
-    room: usize,
-    text: &str,
-) -> Result<String, AllocError> {
-    let words = words_of(alloc, text)?;
-    let mut errors = Vec::new(alloc);
-    let (status, _out) = command(rt, alloc, &words, shelf, Narrow { room }, &mut errors);
-    answer_text(alloc, status, &[], &errors)
+/// The status, and which of the two streams got a text where the other got nothing.
+pub fn stream_text(alloc: Global, done: &CommandAnswer, text: &str) -> Result<String, AllocError> {
+    let status = done.status;
+    let stream = stream_with(&done.out, &done.errors, text);
+    format!(in alloc; "{status} {stream}")
 }
 
-/// What a command answers whose standard error has so much room.
-pub fn with_errors<R: Threads + Wait + Sync>(
-    rt: &R,
-    alloc: Global,
-    shelf: &mut Shelf,
-    room: usize,
-    text: &str,
-) -> Result<String, AllocError> {
-    let words = words_of(alloc, text)?;
-    let mut errors = Narrow { room };
-    let (status, out) = command(rt, alloc, &words, shelf, Vec::new(alloc), &mut errors);
-    answer_text(alloc, status, &out, &[])
-}
-
-/// The status of a command, and which of the two streams got a text where the other got nothing.
-pub fn whether_with<R: Threads + Wait + Sync>(
-    rt: &R,
-    alloc: Global,
-    shelf: &mut Shelf,
-    text: &str,
-    words: &str,
-) -> Result<String, AllocError> {
-    let words = words_of(alloc, words)?;
-    let mut errors = Vec::new(alloc);
-    let (status, out) = command(rt, alloc, &words, shelf, Vec::new(alloc), &mut errors);
-    let stream = if errors.is_empty() && has(&out, text) {
+fn stream_with(out: &[u8], errors: &[u8], text: &str) -> &'static str {
+    if errors.is_empty() && has(out, text) {
         "output"
-    } else if out.is_empty() && has(&errors, text) {
+    } else if out.is_empty() && has(errors, text) {
         "errors"
     } else {
         "neither"
-    };
-    format!(in alloc; "{status} {stream}")
+    }
 }
 
 fn has(bytes: &[u8], text: &str) -> bool {

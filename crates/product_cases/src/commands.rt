@@ -1,7 +1,9 @@
 //! Commands of `preinit`, and the steps of a run that `cli` offers.
 
 use crate::class_bytes::number;
-use crate::command_runs::{self, words_of};
+use crate::command_runs::{
+    CommandAnswer, ROOMY, Rooms, answer_text, done, file_text, same_text, stream_text, words_of,
+};
 use crate::shelf::Shelf;
 use cli::{
     Audit, Build, Building, CommandFault, Explain, Lazy, Renew, Replay, Request, Rest, Run, Status,
@@ -69,57 +71,58 @@ fn of_command<R: Threads + Wait + Sync>(
     shelf: &mut Shelf,
     asked: &str,
 ) -> Result<String, AllocError> {
-    let Some((words, how)) = asked.split_once(" | ") else {
-        return command_runs::answer(rt, alloc, shelf, asked);
-    };
-    match how.split_once(' ') {
-        Some(("output", room)) => command_runs::with_output(rt, alloc, shelf, number(room), words),
-        Some(("errors", room)) => command_runs::with_errors(rt, alloc, shelf, number(room), words),
-        Some(("file", about)) => file_after(rt, alloc, shelf, about, words),
-        Some(("same", names)) => same_after(rt, alloc, shelf, names, words),
-        Some(("begins", length)) => beginning(rt, alloc, shelf, number(length), words),
-        Some(("has", text)) => command_runs::whether_with(rt, alloc, shelf, text, words),
+    let (words, how) = asked.split_once(" | ").unwrap_or((asked, ""));
+    let (verb, about) = how.split_once(' ').unwrap_or((how, ""));
+    let done = done(rt, alloc, shelf, words, rooms_of(verb, about))?;
+    done_text(alloc, shelf, verb, about, &done)
+}
+
+/// How much room the streams have for a question.
+fn rooms_of(verb: &str, about: &str) -> Rooms {
+    match verb {
+        "output" => Rooms {
+            out: number(about),
+            ..ROOMY
+        },
+        "errors" => Rooms {
+            errors: number(about),
+            ..ROOMY
+        },
+        "file" => match about.split_once(' ') {
+            Some((_, room)) => Rooms {
+                out: number(room),
+                ..ROOMY
+            },
+            None => ROOMY,
+        },
+        _ => ROOMY,
+    }
+}
+
+/// What is asked of a command that is done.
+fn done_text(
+    alloc: Global,
+    shelf: &Shelf,
+    verb: &str,
+    about: &str,
+    done: &CommandAnswer,
+) -> Result<String, AllocError> {
+    let (first, second) = about.split_once(' ').unwrap_or((about, ""));
+    match verb {
+        "" => answer_text(alloc, done.status, &done.out, &done.errors),
+        "output" => answer_text(alloc, done.status, &[], &done.errors),
+        "errors" => answer_text(alloc, done.status, &done.out, &[]),
+        "file" => file_text(alloc, done.status, shelf, first),
+        "same" => same_text(alloc, done.status, shelf, first, second),
+        "begins" => beginning(alloc, done, number(about)),
+        "has" => stream_text(alloc, done, about),
         _ => String::from_str(alloc, "no question"),
     }
 }
 
-/// The status, and what a file holds then: its name, or its name and how much room standard output has.
-fn file_after<R: Threads + Wait + Sync>(
-    rt: &R,
-    alloc: Global,
-    shelf: &mut Shelf,
-    about: &str,
-    words: &str,
-) -> Result<String, AllocError> {
-    match about.split_once(' ') {
-        Some((name, room)) => {
-            command_runs::file_after(rt, alloc, shelf, name, number(room), words)
-        }
-        None => command_runs::file_after(rt, alloc, shelf, about, usize::MAX, words),
-    }
-}
-
-/// The status, and whether two files hold the same then, whose names stand in a text.
-fn same_after<R: Threads + Wait + Sync>(
-    rt: &R,
-    alloc: Global,
-    shelf: &mut Shelf,
-    names: &str,
-    words: &str,
-) -> Result<String, AllocError> {
-    let (name, other) = names.split_once(' ').unwrap_or((names, ""));
-    command_runs::same_after(rt, alloc, shelf, name, other, words)
-}
-
 /// The first bytes of an answer.
-fn beginning<R: Threads + Wait + Sync>(
-    rt: &R,
-    alloc: Global,
-    shelf: &mut Shelf,
-    length: usize,
-    words: &str,
-) -> Result<String, AllocError> {
-    let whole = command_runs::answer(rt, alloc, shelf, words)?;
+fn beginning(alloc: Global, done: &CommandAnswer, length: usize) -> Result<String, AllocError> {
+    let whole = answer_text(alloc, done.status, &done.out, &done.errors)?;
     match whole.as_str().get(..length) {
         Some(part) => String::from_str(alloc, part),
         None => Ok(whole),
@@ -144,15 +147,21 @@ fn of_part(alloc: Global, shelf: &Shelf, asked: &str) -> Result<String, AllocErr
 fn request(alloc: Global, text: &str) -> Result<String, AllocError> {
     let words = words_of(alloc, text)?;
     match line(alloc, &words) {
-        Ok(Request::Audit(audit)) => audit_text(alloc, &audit),
-        Ok(Request::Build(build)) => build_text(alloc, &build),
-        Ok(Request::Explain(explain)) => explain_text(alloc, &explain),
-        Ok(Request::Lazy(lazy)) => lazy_text(alloc, &lazy),
-        Ok(Request::Report(building)) => building_text(alloc, "report", &building),
-        Ok(Request::Renew(renew)) => renew_text(alloc, &renew),
-        Ok(Request::Replay(replay)) => replay_text(alloc, &replay),
-        Ok(Request::Run(run)) => run_text(alloc, &run),
+        Ok(request) => request_text(alloc, &request),
         Err(_) => String::from_str(alloc, "no command"),
+    }
+}
+
+fn request_text(alloc: Global, request: &Request<'_>) -> Result<String, AllocError> {
+    match request {
+        Request::Audit(audit) => audit_text(alloc, audit),
+        Request::Build(build) => build_text(alloc, build),
+        Request::Explain(explain) => explain_text(alloc, explain),
+        Request::Lazy(lazy) => lazy_text(alloc, lazy),
+        Request::Report(building) => building_text(alloc, "report", building),
+        Request::Renew(renew) => renew_text(alloc, renew),
+        Request::Replay(replay) => replay_text(alloc, replay),
+        Request::Run(run) => run_text(alloc, run),
     }
 }
 

@@ -1,7 +1,7 @@
 //! The bytes of an image that is built of classes, and what reading them answers, whole, cut and changed.
 
 use crate::class_bytes::{hexadecimal, number};
-use crate::command_runs::done;
+use crate::command_runs::{ROOMY, done};
 use crate::image_sinks::failing;
 use crate::shelf::{Shelf, add_digest};
 use image_reader::read;
@@ -35,7 +35,7 @@ fn built_by<R: Threads + Wait + Sync>(
     for file in files {
         shelf.add_file(&mut words, file)?;
     }
-    done(rt, alloc, &mut shelf, &words)?;
+    let _done = done(rt, alloc, &mut shelf, &words, ROOMY)?;
     Vec::from_slice(alloc, shelf.find("image").unwrap_or(&[]))
 }
 

@@ -1,6 +1,6 @@
 //! Reports of builds of class files.
 
-use crate::command_runs::output;
+use crate::command_runs::{ROOMY, done, output_text};
 use crate::shelf::Shelf;
 use classfile::ClassFile;
 use std::alloc::{AllocError, Global};
@@ -18,5 +18,6 @@ pub fn reported<R: Threads + Wait + Sync>(
     for class in classes {
         shelf.add_class(&mut words, class)?;
     }
-    output(rt, alloc, &mut shelf, &words)
+    let done = done(rt, alloc, &mut shelf, &words, ROOMY)?;
+    output_text(alloc, &done)
 }

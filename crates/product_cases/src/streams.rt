@@ -1,19 +1,35 @@
 //! Streams that fail.
 
+ghost use Rattle.std.specs.Prelude.{Some};
+
+use std::alloc::Global;
 use std::io::{self, ErrorKind, Write};
 
-/// A stream that takes so many bytes and then fails, in `flush` too.
+/// A stream that takes so many bytes, which it keeps, and then fails, in `flush` too.
 #[derive(Drop)]
 pub struct Narrow {
-    pub room: usize,
+    room: usize,
+    pub got: Vec<u8>,
+}
+
+impl Narrow {
+    pub fn new(alloc: Global, room: usize) -> Narrow {
+        Narrow {
+            room,
+            got: Vec::new(alloc),
+        }
+    }
 }
 
 impl Write for Narrow {
+    ghost contents = { λ s. Some s.got.items };
+
     fn write(&mut self, bytes: &[u8]) -> io::Result<usize> {
         let taken = bytes.len().min(self.room);
         if taken == 0 && !bytes.is_empty() {
             return Err(io::Error::from(ErrorKind::BrokenPipe));
         }
+        self.got.extend_from_slice(&bytes[..taken])?;
         self.room -= taken;
         Ok(taken)
     }

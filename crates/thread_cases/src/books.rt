@@ -4,12 +4,14 @@ ghost use Rattle.std.specs.Prelude.{◌≡◌, ◌<◌, length};
 ghost use Rattle.init_engine.specs.Turns.{world_of};
 
 use crate::programs::{M, SPIN, SQ, program_of, start_with};
+use crate::shown::steps_in;
 use init_engine::World;
 use journal::Journal;
 use program::Program;
-use std::alloc::Global;
+use std::alloc::{AllocError, Global};
 use std::marker::Brand;
 use std::process::Abort;
+use std::str::from_utf8;
 use std::test::*;
 use thread_runner::done_set::DoneSet;
 use thread_runner::origin::Origin;
@@ -27,33 +29,35 @@ enum StretchKind {
 
 const STRETCH_KINDS: [StretchKind; 2] = [StretchKind::Frames, StretchKind::Front];
 
+/// Which stretches a thread commits.
+#[derive(Clone, Copy)]
+enum Plan {
+    /// Up to its end, over the classes that are initialized.
+    Known,
+    /// Up to its end, over none.
+    Unknown,
+    /// Two that are made at its start.
+    Twice,
+    /// Two that are made at one place, after a first commit.
+    LaterTwice,
+    /// A second one over the classes that are initialized in another start.
+    Others,
+}
+
+/// A thread: its classes in their text form, its entry, and which classes are initialized, also in another start.
+#[derive(Clone, Copy)]
+struct Case<'a> {
+    text: &'a str,
+    entry: &'a str,
+    initialized: &'a [&'a str],
+    others: &'a [&'a str],
+}
+
 /// A stretch that was made so.
 #[derive(Drop)]
 enum Made<O: Origin> {
     Frames(Stretch<O>),
     Front(Option<FrontStretch<O>>),
-}
-
-/// How many steps each commit of a thread counted up to the first that answered `Ended`, and the journal's text.
-#[derive(Drop)]
-struct Commits {
-    steps: Vec<u64>,
-    text: Vec<u8>,
-}
-
-/// How many steps a journal has.
-fn steps_in(runs: &[(u32, u64)]) -> u64 {
-    let mut sum = 0u64;
-    for run in runs {
-        sum = sum.wrapping_add(run.1);
-    }
-    sum
-}
-
-/// The text of a book's journal.
-fn text_of<O: Origin>(alloc: Global, book: &Book<O>) -> Result<Vec<u8>, Fail> {
-    let runs = Vec::from_slice(alloc, book.journal())?;
-    Ok(Journal::of(runs).text(alloc)?)
 }
 
 /// A stretch of the first thread from where it is, over these classes.
@@ -62,20 +66,42 @@ fn make<O: Origin>(
     program: &Program,
     book: &Book<O>,
     kind: StretchKind,
-    done: DoneSet,
-) -> Result<Made<O>, Fail>
+    done: &DoneSet,
+) -> Result<Made<O>, AllocError>
     requires program { program.now ≡ O.program }
     requires thread { 0 < length book.now.past.world.threads }
 {
     match kind {
-        StretchKind::Frames => {
-            let frames = book.frames(alloc, 0)?;
-            Ok(Made::Frames(stretch::<O>(alloc, program, frames, &done)?))
-        }
-        StretchKind::Front => match book.front(alloc, 0)? {
-            Some(frame) => Ok(Made::Front(front_stretch::<O>(alloc, program, 0, frame, &done)?)),
-            None => Ok(Made::Front(None)),
-        },
+        StretchKind::Frames => make_frames(alloc, program, book, done),
+        StretchKind::Front => make_front(alloc, program, book, done),
+    }
+}
+
+fn make_frames<O: Origin>(
+    alloc: Global,
+    program: &Program,
+    book: &Book<O>,
+    done: &DoneSet,
+) -> Result<Made<O>, AllocError>
+    requires program { program.now ≡ O.program }
+    requires thread { 0 < length book.now.past.world.threads }
+{
+    let frames = book.frames(alloc, 0)?;
+    Ok(Made::Frames(stretch::<O>(alloc, program, frames, done)?))
+}
+
+fn make_front<O: Origin>(
+    alloc: Global,
+    program: &Program,
+    book: &Book<O>,
+    done: &DoneSet,
+) -> Result<Made<O>, AllocError>
+    requires program { program.now ≡ O.program }
+    requires thread { 0 < length book.now.past.world.threads }
+{
+    match book.front(alloc, 0)? {
+        Some(frame) => Ok(Made::Front(front_stretch::<O>(alloc, program, 0, frame, done)?)),
+        None => Ok(Made::Front(None)),
     }
 }
 
@@ -85,241 +111,297 @@ fn commit<O: Origin>(
     program: &Program,
     book: &mut Book<O>,
     made: Made<O>,
-) -> Result<Commit, Fail>
+) -> Result<Commit, AllocError>
     requires program { program.now ≡ O.program }
     requires thread { 0 < length book.old.past.world.threads }
     ensures { length book.new.past.world.threads ≡ length book.old.past.world.threads }
 {
     match made {
-        Made::Frames(stretch) => Ok(book.commit(alloc, program, 0, stretch)?),
-        Made::Front(stretch) => Ok(book.commit_front(alloc, program, 0, stretch)?),
+        Made::Frames(stretch) => book.commit(alloc, program, 0, stretch),
+        Made::Front(stretch) => book.commit_front(alloc, program, 0, stretch),
     }
 }
 
-/// A stretch of the only thread from where it is, committed: over the classes that are initialized, or over none.
+fn word_of(commit: Commit) -> &'static str {
+    match commit {
+        Commit::Moved => "moved",
+        Commit::Ended => "ended",
+        Commit::Stale => "stale",
+        _ => "another",
+    }
+}
+
+/// Commits a stretch, and adds what is answered and how many steps were counted. Answers whether the thread moved.
+fn add_commit<O: Origin>(
+    alloc: Global,
+    program: &Program,
+    book: &mut Book<O>,
+    made: Made<O>,
+    answers: &mut String,
+) -> Result<bool, AllocError>
+    requires program { program.now ≡ O.program }
+    requires thread { 0 < length book.old.past.world.threads }
+    ensures { length book.new.past.world.threads ≡ length book.old.past.world.threads }
+{
+    let before = steps_in(book.journal());
+    let answer = commit(alloc, program, book, made)?;
+    let steps = steps_in(book.journal()).wrapping_sub(before);
+    let word = word_of(answer);
+    write!(answers, "{word} {steps}, ")?;
+    Ok(word == "moved")
+}
+
+/// Commits a stretch of the only thread from where it is. Answers whether it moved.
 fn commit_next<O: Origin>(
     alloc: Global,
     program: &Program,
     book: &mut Book<O>,
     kind: StretchKind,
-    known: bool,
-) -> Result<Commit, Fail>
+    done: &DoneSet,
+    answers: &mut String,
+) -> Result<bool, AllocError>
     requires { program.now ≡ O.program }
-    ensures { length book.new.past.world.threads ≡ length book.old.past.world.threads }
 {
     if book.world().thread_count() == 0 {
-        return Err(Fail::new("no thread"));
+        return Ok(false);
     }
-    let done = if known {
-        book.done(alloc, program)?
-    } else {
-        DoneSet::none()
-    };
     let made = make::<O>(alloc, program, book, kind, done)?;
-    commit(alloc, program, book, made)
+    add_commit(alloc, program, book, made, answers)
 }
 
-/// Commits of the only thread of a world.
-fn commits_in<O: Origin>(
+/// Commits stretches of the only thread up to its end.
+fn commit_all<O: Origin>(
     alloc: Global,
     program: &Program,
-    world: World,
+    book: &mut Book<O>,
     kind: StretchKind,
     known: bool,
-) -> Result<Commits, Fail>
-    requires program { program.now ≡ O.program }
-    requires start { world_of world ≡ O.start }
+    answers: &mut String,
+) -> Result<(), AllocError>
+    requires { program.now ≡ O.program }
 {
-    let mut book = Book::<O>::new(alloc, world, 10_000);
-    let mut steps = Vec::new(alloc);
     for _ in 0..20 {
-        let before = steps_in(book.journal());
-        match commit_next(alloc, program, &mut book, kind, known)? {
-            Commit::Moved => steps.push(steps_in(book.journal()).wrapping_sub(before))?,
-            Commit::Ended => {
-                let text = text_of(alloc, &book)?;
-                return Ok(Commits { steps, text });
-            }
-            _ => return Err(Fail::new("no commit")),
+        let done = done_of(alloc, program, book, known)?;
+        if !commit_next(alloc, program, book, kind, &done, answers)? {
+            return Ok(());
         }
     }
-    Err(Fail::new("no end"))
+    Ok(())
 }
 
-/// Commits of the only thread of a start.
-fn commits_of(
+/// The classes that are initialized, or none.
+fn done_of<O: Origin>(
     alloc: Global,
-    text: &str,
-    entry: &str,
-    initialized: &[&str],
-    kind: StretchKind,
+    program: &Program,
+    book: &Book<O>,
     known: bool,
-) -> Result<Commits, Fail> {
-    let program = program_of(alloc, text)?;
-    let world = start_with(alloc, &program, &[entry], initialized)?;
-    commits_in::<Brand>(alloc, &program, world, kind, known)
-}
-
-#[test]
-fn a_loop_is_committed_by_stretches(rt: HostRuntime) -> Result<(), Fail> {
-    for kind in STRETCH_KINDS.iter() {
-        let made = commits_of(rt.alloc(), SPIN, "Spin", &["Spin"], *kind, true)?;
-        assert_eq!(rt; made.steps.as_slice(), [1024, 1024, 956].as_slice());
-        assert_eq!(rt; made.text.as_slice(), b"0 3004\n".as_slice());
+) -> Result<DoneSet, AllocError> {
+    if known {
+        book.done(alloc, program)
+    } else {
+        Ok(DoneSet::none())
     }
-    Ok(())
 }
 
-#[test]
-fn a_call_is_local_where_its_class_is_known(rt: HostRuntime) -> Result<(), Fail> {
-    for kind in STRETCH_KINDS.iter() {
-        let made = commits_of(rt.alloc(), SQ, "Main21", &["Sq", "Main21"], *kind, true)?;
-        assert_eq!(rt; made.steps.as_slice(), [9].as_slice());
-        assert_eq!(rt; made.text.as_slice(), b"0 9\n".as_slice());
-    }
-    Ok(())
-}
-
-/// A stretch on all frames goes on below the callee, and one on the innermost frame ends with it.
-#[test]
-fn a_call_is_committed_where_its_class_is_not_known(rt: HostRuntime) -> Result<(), Fail> {
-    let initialized = ["Sq", "Main21"];
-    let made = commits_of(
-        rt.alloc(),
-        SQ,
-        "Main21",
-        initialized.as_slice(),
-        StretchKind::Frames,
-        false,
-    )?;
-    assert_eq!(rt; made.steps.as_slice(), [1, 2, 6].as_slice());
-    assert_eq!(rt; made.text.as_slice(), b"0 9\n".as_slice());
-    let made = commits_of(
-        rt.alloc(),
-        SQ,
-        "Main21",
-        initialized.as_slice(),
-        StretchKind::Front,
-        false,
-    )?;
-    assert_eq!(rt; made.steps.as_slice(), [1, 2, 4, 2].as_slice());
-    assert_eq!(rt; made.text.as_slice(), b"0 9\n".as_slice());
-    Ok(())
-}
-
-/// What two stretches answer that were both made where the thread is, and the journal's text.
+/// Commits two stretches that were both made where the only thread is.
 fn commit_both<O: Origin>(
     alloc: Global,
     program: &Program,
     book: &mut Book<O>,
     kind: StretchKind,
-) -> Result<(Commit, Commit, Vec<u8>), Fail>
-    requires program { program.now ≡ O.program }
-    requires thread { 0 < length book.old.past.world.threads }
+    answers: &mut String,
+) -> Result<(), AllocError>
+    requires { program.now ≡ O.program }
 {
-    let first = make::<O>(alloc, program, book, kind, DoneSet::none())?;
-    let other = make::<O>(alloc, program, book, kind, DoneSet::none())?;
-    let counts = commit(alloc, program, book, first)?;
-    let stale = commit(alloc, program, book, other)?;
-    Ok((counts, stale, text_of(alloc, book)?))
+    if book.world().thread_count() == 0 {
+        return Ok(());
+    }
+    let first = make::<O>(alloc, program, book, kind, &DoneSet::none())?;
+    let other = make::<O>(alloc, program, book, kind, &DoneSet::none())?;
+    add_commit(alloc, program, book, first, answers)?;
+    add_commit(alloc, program, book, other, answers)?;
+    Ok(())
 }
 
-/// Two commits of stretches made where the thread is, at a start or after a first commit.
-fn commit_twice<O: Origin>(
+/// Commits the stretches of a plan.
+fn commit_plan<O: Origin>(
+    alloc: Global,
+    program: &Program,
+    book: &mut Book<O>,
+    kind: StretchKind,
+    plan: Plan,
+    others: &DoneSet,
+    answers: &mut String,
+) -> Result<(), AllocError>
+    requires { program.now ≡ O.program }
+{
+    if matches!(plan, Plan::LaterTwice | Plan::Others) {
+        commit_next(alloc, program, book, kind, &DoneSet::none(), answers)?;
+    }
+    match plan {
+        Plan::Known => commit_all(alloc, program, book, kind, true, answers),
+        Plan::Unknown => commit_all(alloc, program, book, kind, false, answers),
+        Plan::Twice => commit_both(alloc, program, book, kind, answers),
+        Plan::LaterTwice => commit_both(alloc, program, book, kind, answers),
+        Plan::Others => {
+            commit_next(alloc, program, book, kind, others, answers)?;
+            Ok(())
+        }
+    }
+}
+
+/// Adds the text of a book's journal.
+fn add_journal<O: Origin>(
+    alloc: Global,
+    book: &Book<O>,
+    answers: &mut String,
+) -> Result<(), AllocError> {
+    let runs = Vec::from_slice(alloc, book.journal())?;
+    let text = Journal::of(runs).text(alloc)?;
+    answers.push_str(from_utf8(&text).unwrap_or("no text"))
+}
+
+/// What the commits of a plan answer, and the journal after them.
+fn answers_in<O: Origin>(
     alloc: Global,
     program: &Program,
     world: World,
     kind: StretchKind,
-    later: bool,
-) -> Result<(Commit, Commit, Vec<u8>), Fail>
+    plan: Plan,
+    others: &DoneSet,
+) -> Result<String, AllocError>
     requires program { program.now ≡ O.program }
     requires start { world_of world ≡ O.start }
-    requires thread { 0 < length world.threads }
 {
     let mut book = Book::<O>::new(alloc, world, 10_000);
-    if later {
-        let _first = commit_next(alloc, program, &mut book, kind, false)?;
-        commit_both(alloc, program, &mut book, kind)
-    } else {
-        commit_both(alloc, program, &mut book, kind)
-    }
-}
-
-/// Of two stretches from one place of a thread the first counts, and the other does not.
-fn counts_once<R: AllocGlobal + Abort>(
-    rt: &R,
-    text: &str,
-    entry: &str,
-    kind: StretchKind,
-    later: bool,
-    journal: &[u8],
-) -> Result<(), Fail> {
-    let program = program_of(rt.alloc(), text)?;
-    let world = start_with(rt.alloc(), &program, &[entry], &[entry])?;
-    if world.thread_count() == 0 {
-        return Err(Fail::new("no thread"));
-    }
-    let (counts, stale, text) = commit_twice::<Brand>(rt.alloc(), &program, world, kind, later)?;
-    assert!(rt; matches!(counts, Commit::Moved));
-    assert!(rt; matches!(stale, Commit::Stale));
-    assert_eq!(rt; text.as_slice(), journal);
-    Ok(())
-}
-
-#[test]
-fn frames_that_were_taken_twice_count_once(rt: HostRuntime) -> Result<(), Fail> {
-    counts_once(&rt, M, "M", StretchKind::Frames, false, b"0 1\n".as_slice())?;
-    for kind in STRETCH_KINDS.iter() {
-        counts_once(&rt, SPIN, "Spin", *kind, true, b"0 1025\n".as_slice())?;
-    }
-    Ok(())
+    let mut answers = String::new(alloc);
+    commit_plan(alloc, program, &mut book, kind, plan, others, &mut answers)?;
+    add_journal(alloc, &book, &mut answers)?;
+    Ok(answers)
 }
 
 /// The classes that are initialized in a start.
-fn done_in<O: Origin>(alloc: Global, program: &Program, world: World) -> Result<DoneSet, Fail>
-    requires start { world_of world ≡ O.start }
+fn done_in<O: Origin>(alloc: Global, program: &Program, world: World) -> Result<DoneSet, AllocError>
+    requires { world_of world ≡ O.start }
 {
     let book = Book::<O>::new(alloc, world, 10_000);
-    Ok(book.done(alloc, program)?)
+    book.done(alloc, program)
 }
 
-/// What the second stretch answers that takes these classes to be initialized, and the journal's text.
-fn commit_over<O: Origin>(
+/// Those that are initialized in the other start.
+fn others_of(alloc: Global, program: &Program, case: &Case<'_>) -> Result<DoneSet, AllocError> {
+    match start_with(alloc, program, &[case.entry], case.others)? {
+        Some(world) => done_in::<Brand>(alloc, program, world),
+        None => Ok(DoneSet::none()),
+    }
+}
+
+fn answers_over(
     alloc: Global,
     program: &Program,
-    world: World,
+    case: &Case<'_>,
     kind: StretchKind,
-    done: DoneSet,
-) -> Result<(Commit, Vec<u8>), Fail>
-    requires program { program.now ≡ O.program }
-    requires start { world_of world ≡ O.start }
-    requires thread { 0 < length world.threads }
-{
-    let mut book = Book::<O>::new(alloc, world, 10_000);
-    let _first = commit_next(alloc, program, &mut book, kind, false)?;
-    let made = make::<O>(alloc, program, &book, kind, done)?;
-    let answer = commit(alloc, program, &mut book, made)?;
-    Ok((answer, text_of(alloc, &book)?))
+    plan: Plan,
+) -> Result<String, AllocError> {
+    let others = others_of(alloc, program, case)?;
+    match start_with(alloc, program, &[case.entry], case.initialized)? {
+        Some(world) => answers_in::<Brand>(alloc, program, world, kind, plan, &others),
+        None => String::from_str(alloc, "no start"),
+    }
 }
 
-/// What the second stretch answers over classes that are initialized in another start alone, and the journal's text.
-fn commit_over_another_start(alloc: Global, kind: StretchKind) -> Result<(Commit, Vec<u8>), Fail> {
-    let program = program_of(alloc, SQ)?;
-    let both = start_with(alloc, &program, &["Main21"], &["Sq", "Main21"])?;
-    let done = done_in::<Brand>(alloc, &program, both)?;
-    let world = start_with(alloc, &program, &["Main21"], &["Main21"])?;
-    if world.thread_count() == 0 {
-        return Err(Fail::new("no thread"));
+fn answers_of(
+    alloc: Global,
+    case: &Case<'_>,
+    kind: StretchKind,
+    plan: Plan,
+) -> Result<String, AllocError> {
+    match program_of(alloc, &[case.text])? {
+        Some(program) => answers_over(alloc, &program, case, kind, plan),
+        None => String::from_str(alloc, "no program"),
     }
-    commit_over::<Brand>(alloc, &program, world, kind, done)
+}
+
+/// The commits of a plan answer this.
+fn answer<R: AllocGlobal + Abort>(
+    rt: &R,
+    case: &Case<'_>,
+    kind: StretchKind,
+    plan: Plan,
+    wanted: &str,
+) -> Result<(), Fail> {
+    let answers = answers_of(rt.alloc(), case, kind, plan)?;
+    assert_eq!(rt; answers.as_str(), wanted);
+    Ok(())
+}
+
+fn both_answer<R: AllocGlobal + Abort>(
+    rt: &R,
+    case: &Case<'_>,
+    plan: Plan,
+    wanted: &str,
+) -> Result<(), Fail> {
+    for kind in STRETCH_KINDS.iter() {
+        answer(rt, case, *kind, plan, wanted)?;
+    }
+    Ok(())
+}
+
+const SPINNING: Case<'_> = Case {
+    text: SPIN,
+    entry: "Spin",
+    initialized: &["Spin"],
+    others: &[],
+};
+
+const CALLING: Case<'_> = Case {
+    text: SQ,
+    entry: "Main21",
+    initialized: &["Sq", "Main21"],
+    others: &[],
+};
+
+#[test]
+fn a_loop_is_committed_by_stretches(rt: HostRuntime) -> Result<(), Fail> {
+    let wanted = "moved 1024, moved 1024, moved 956, ended 0, 0 3004\n";
+    both_answer(&rt, &SPINNING, Plan::Known, wanted)
+}
+
+#[test]
+fn a_call_is_local_where_its_class_is_known(rt: HostRuntime) -> Result<(), Fail> {
+    both_answer(&rt, &CALLING, Plan::Known, "moved 9, ended 0, 0 9\n")
+}
+
+/// A stretch on all frames goes on below the callee, and one on the innermost frame ends with it.
+#[test]
+fn a_call_is_committed_where_its_class_is_not_known(rt: HostRuntime) -> Result<(), Fail> {
+    let frames = "moved 1, moved 2, moved 6, ended 0, 0 9\n";
+    answer(&rt, &CALLING, StretchKind::Frames, Plan::Unknown, frames)?;
+    let front = "moved 1, moved 2, moved 4, moved 2, ended 0, 0 9\n";
+    answer(&rt, &CALLING, StretchKind::Front, Plan::Unknown, front)
+}
+
+/// Of two stretches from one place of a thread the first counts, and the other does not.
+#[test]
+fn frames_that_were_taken_twice_count_once(rt: HostRuntime) -> Result<(), Fail> {
+    let printing = Case {
+        text: M,
+        entry: "M",
+        initialized: &["M"],
+        others: &[],
+    };
+    let wanted = "moved 1, stale 0, 0 1\n";
+    answer(&rt, &printing, StretchKind::Frames, Plan::Twice, wanted)?;
+    let wanted = "moved 1, moved 1024, stale 0, 0 1025\n";
+    both_answer(&rt, &SPINNING, Plan::LaterTwice, wanted)
 }
 
 #[test]
 fn a_stretch_over_another_start_is_stale(rt: HostRuntime) -> Result<(), Fail> {
-    for kind in STRETCH_KINDS.iter() {
-        let (answer, text) = commit_over_another_start(rt.alloc(), *kind)?;
-        assert!(rt; matches!(answer, Commit::Stale));
-        assert_eq!(rt; text.as_slice(), b"0 1\n".as_slice());
-    }
-    Ok(())
+    let case = Case {
+        initialized: &["Main21"],
+        others: &["Sq", "Main21"],
+        ..CALLING
+    };
+    both_answer(&rt, &case, Plan::Others, "moved 1, stale 0, 0 1\n")
 }

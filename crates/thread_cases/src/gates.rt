@@ -2,9 +2,12 @@
 
 ghost use Rattle.std.specs.Prelude.{Some};
 
-use crate::programs::{CIRCLE, M, Q_AND_T, SPIN, Tape, program_of, start_of, start_with};
-use init_engine::{Ending, World};
+use crate::programs::{CIRCLE, M, Q_AND_T, SPIN, Tape, program_of};
+use crate::runs::ONE;
+use crate::shown::{Run, Shown, answered, ends, perform, start};
+use init_engine::World;
 use program::Program;
+use std::alloc::AllocError;
 use std::process::Abort;
 use std::rt::Clock;
 use std::sync::Wait;
@@ -13,7 +16,7 @@ use std::test::*;
 use std::thread;
 use std::thread::Threads;
 use std::time::Duration;
-use thread_runner::{Gate, Open, RunFault, Sink, SinkFault, run_threads};
+use thread_runner::{Gate, Open, Sink, SinkFault, run_threads};
 
 /// How often a wait sleeps for a millisecond at most.
 const SLEEPS: u32 = 10_000;
@@ -66,15 +69,14 @@ fn get_through<R: Threads + Wait + Abort + AllocGlobal + Sync, G: Gate>(
     entries: &[&str],
     gate: &G,
 ) -> Result<(), Fail> {
-    let program = program_of(rt.alloc(), Q_AND_T)?;
-    let world = start_of(rt.alloc(), &program, entries)?;
-    let tape = Tape::new(rt.alloc(), 100);
-    let (answer, tape) = run_threads(rt, rt.alloc(), &program, world, gate, tape, 10_000);
-    let Ok(ended) = answer else {
-        return Err(Fail::new("no end"));
+    let run = Run {
+        classes: &[Q_AND_T],
+        entries,
+        ..ONE
     };
-    assert_eq!(rt; tape.got.as_slice(), b"5\n".as_slice());
-    assert_eq!(rt; ended.seen.threads.len(), entries.len());
+    let shown = perform(rt, &run, gate)?;
+    ends(rt, &shown, "ended", "5\n");
+    assert_eq!(rt; shown.threads, entries.len());
     Ok(())
 }
 
@@ -217,27 +219,61 @@ impl<'a, R: Clock> Sink for SlowTape<'a, R> {
     }
 }
 
+impl<'a, R: Clock> Cross<'a, R> {
+    fn new(rt: &'a R) -> Cross<'a, R> {
+        Cross {
+            rt,
+            asked: AtomicU64::new(0),
+            entered: AtomicU64::new(0),
+            made: AtomicU64::new(0),
+            late: AtomicU64::new(0),
+        }
+    }
+}
+
+/// Two threads of which one prints, where their classes are initialized.
+const CROSSING: Run<'_> = Run {
+    classes: &[SPIN, M],
+    entries: &["Spin", "M"],
+    initialized: &["Spin", "M"],
+    room: 100,
+    limit: 100_000,
+};
+
+/// What those threads show into a tape that waits for a stretch.
+fn perform_crossing<R: Threads + Wait + Clock + AllocGlobal + Sync>(
+    rt: &R,
+    program: &Program,
+    cross: &Cross<'_, R>,
+) -> Result<Option<Shown>, AllocError> {
+    match start(rt.alloc(), program, &CROSSING)? {
+        Some(world) => Ok(Some(perform_crossing_from(rt, program, world, cross)?)),
+        None => Ok(None),
+    }
+}
+
+fn perform_crossing_from<R: Threads + Wait + Clock + AllocGlobal + Sync>(
+    rt: &R,
+    program: &Program,
+    world: World,
+    cross: &Cross<'_, R>,
+) -> Result<Shown, AllocError> {
+    let tape = Tape::new(rt.alloc(), CROSSING.room);
+    let slow = SlowTape { tape, cross };
+    let (answer, slow) = run_threads(rt, rt.alloc(), program, world, cross, slow, CROSSING.limit);
+    answered(rt.alloc(), answer, slow.tape.got)
+}
+
 #[test]
 fn a_stretch_is_made_while_the_sink_has_the_lock(rt: HostRuntime) -> Result<(), Fail> {
-    let text = format!(in rt.alloc(); "{SPIN}\n{M}")?;
-    let program = program_of(rt.alloc(), &text)?;
-    let world = start_with(rt.alloc(), &program, &["Spin", "M"], &["Spin", "M"])?;
-    let cross = Cross {
-        rt: &rt,
-        asked: AtomicU64::new(0),
-        entered: AtomicU64::new(0),
-        made: AtomicU64::new(0),
-        late: AtomicU64::new(0),
+    let Some(program) = program_of(rt.alloc(), CROSSING.classes)? else {
+        return Err(Fail::new("no program"));
     };
-    let slow = SlowTape {
-        tape: Tape::new(rt.alloc(), 100),
-        cross: &cross,
+    let cross = Cross::new(&rt);
+    let Some(shown) = perform_crossing(&rt, &program, &cross)? else {
+        return Err(Fail::new("no start"));
     };
-    let (answer, slow) = run_threads(&rt, rt.alloc(), &program, world, &cross, slow, 100_000);
-    let Ok(_ended) = answer else {
-        return Err(Fail::new("no end"));
-    };
-    assert_eq!(rt; slow.tape.got.as_slice(), b"7\n".as_slice());
+    ends(&rt, &shown, "ended", "7\n");
     assert_eq!(rt; cross.late.load(Ordering::SeqCst), 0);
     Ok(())
 }
@@ -257,52 +293,50 @@ impl<'a, R: Clock + Sync> Gate for Both<'a, R> {
     fn done(&self, _who: u32, _job: u64) {}
 }
 
+/// Two threads that wait for one another, lazily or where their entries are initialized.
+const WAITING: Run<'_> = Run {
+    classes: &[CIRCLE],
+    entries: &["Pa", "Pb"],
+    ..ONE
+};
+
+const WAITING_INITIALIZED: Run<'_> = Run {
+    initialized: &["Pa", "Pb"],
+    ..WAITING
+};
+
 /// Two threads that meet before their stretches of a number get stuck.
 fn get_stuck<R: Threads + Wait + Abort + Clock + AllocGlobal + Sync>(
     rt: &R,
-    program: &Program,
-    world: World,
+    run: &Run<'_>,
     job: u64,
 ) -> Result<(), Fail> {
     let gate = Both {
         job,
         meet: Meet::new(rt, 2),
     };
-    let tape = Tape::new(rt.alloc(), 100);
-    let (answer, tape) = run_threads(rt, rt.alloc(), program, world, &gate, tape, 10_000);
-    let Err(RunFault::Stuck(ended)) = answer else {
-        return Err(Fail::new("not stuck"));
-    };
-    assert_eq!(rt; tape.got.len(), 0);
-    assert_eq!(rt; ended.seen.threads.len(), 2);
-    for ending in &ended.seen.threads {
-        assert!(rt; matches!(ending, Ending::Going));
-    }
+    let shown = perform(rt, run, &gate)?;
+    ends(rt, &shown, "stuck", "");
+    assert_eq!(rt; shown.threads, 2);
+    assert_eq!(rt; shown.going, 2);
     assert_eq!(rt; gate.meet.late.load(Ordering::SeqCst), 0);
     Ok(())
 }
 
 #[test]
 fn two_threads_wait_for_one_another(rt: HostRuntime) -> Result<(), Fail> {
-    let program = program_of(rt.alloc(), CIRCLE)?;
-    let world = start_of(rt.alloc(), &program, &["Pa", "Pb"])?;
-    get_stuck(&rt, &program, world, 4)
+    get_stuck(&rt, &WAITING, 4)
 }
 
 #[test]
 fn two_threads_wait_where_their_entries_are_initialized(rt: HostRuntime) -> Result<(), Fail> {
-    let program = program_of(rt.alloc(), CIRCLE)?;
-    let world = start_with(rt.alloc(), &program, &["Pa", "Pb"], &["Pa", "Pb"])?;
-    get_stuck(&rt, &program, world, 2)
+    get_stuck(&rt, &WAITING_INITIALIZED, 2)
 }
 
 #[test]
 fn two_threads_without_a_gate_end_or_wait_for_one_another(rt: HostRuntime) -> Result<(), Fail> {
-    let program = program_of(rt.alloc(), CIRCLE)?;
-    let world = start_with(rt.alloc(), &program, &["Pa", "Pb"], &["Pa", "Pb"])?;
-    let tape = Tape::new(rt.alloc(), 100);
-    let (answer, tape) = run_threads(&rt, rt.alloc(), &program, world, &Open, tape, 10_000);
-    assert!(rt; matches!(answer, Ok(_) | Err(RunFault::Stuck(_))));
-    assert_eq!(rt; tape.got.len(), 0);
+    let shown = perform(&rt, &WAITING_INITIALIZED, &Open)?;
+    assert!(rt; matches!(shown.end, "ended" | "stuck"));
+    assert_eq!(rt; shown.got.len(), 0);
     Ok(())
 }

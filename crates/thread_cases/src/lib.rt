@@ -15,6 +15,8 @@ mod runs;
 #[cfg(test)]
 mod settled;
 #[cfg(test)]
+mod shown;
+#[cfg(test)]
 mod worker_gates;
 #[cfg(test)]
 mod workers;

@@ -1,6 +1,6 @@
 //! Programs and starts from classes in their text form, and a sink in memory.
 
-ghost use Rattle.std.specs.Prelude.{Some};
+ghost use Rattle.std.specs.Prelude.{◌≤◌, Some, length};
 
 use cases::{modified_utf8, read_class_files};
 use classfile::{ClassName, read};
@@ -8,10 +8,10 @@ use init_engine::World;
 use init_engine::starting::{entry_classes, lazy_shared};
 use program::{Program, link};
 use std::alloc::{AllocError, Global};
-use std::test::*;
 use thread_runner::{Sink, SinkFault};
 use vm_state::classes::Fields;
 use vm_state::heap::Pool;
+use vm_state::shared::Shared;
 
 /// A class that prints 7.
 pub const M: &str = "class M: main 8 8 out bipush 7 println return";
@@ -52,23 +52,33 @@ class Main8: main 8 8 s: getstatic D.v:I pop e: goto >a h: pop out bipush 1 prin
 pub const SQ: &str = "class Sq: static f(I)I 2 8 iload_0 iload_0 imul ireturn
 class Main21: main 8 8 iconst_3 invokestatic Sq.f(I)I pop return";
 
-/// The program of classes in their text form.
-pub fn program_of(alloc: Global, text: &str) -> Result<Program, Fail> {
-    let Some(classes) = read_class_files(alloc, text, |bytes| read(alloc, bytes).ok())? else {
-        return Err(Fail::new("no class files"));
-    };
-    match link(alloc, classes) {
-        Ok(program) => Ok(program),
-        Err(_) => Err(Fail::new("no program")),
+/// The program of classes in their text form, where they make one.
+pub fn program_of(alloc: Global, classes: &[&str]) -> Result<Option<Program>, AllocError> {
+    let text = lines_of(alloc, classes)?;
+    match read_class_files(alloc, &text, |bytes| read(alloc, bytes).ok())? {
+        Some(classes) => Ok(link(alloc, classes).ok()),
+        None => Ok(None),
     }
 }
 
-/// The lazy start of these entries.
-pub fn start_of(alloc: Global, program: &Program, entries: &[&str]) -> Result<World, Fail> {
-    match World::lazy(alloc, program, &names_of(alloc, entries)?) {
-        Ok(world) => Ok(world),
-        Err(_) => Err(Fail::new("no start")),
+/// A line for each text.
+fn lines_of(alloc: Global, texts: &[&str]) -> Result<String, AllocError> {
+    let mut lines = String::new(alloc);
+    for text in texts {
+        lines.push_str(text)?;
+        lines.push('\n')?;
     }
+    Ok(lines)
+}
+
+/// The lazy start of these entries, where they have one.
+pub fn start_of(
+    alloc: Global,
+    program: &Program,
+    entries: &[&str],
+) -> Result<Option<World>, AllocError> {
+    let names = names_of(alloc, entries)?;
+    Ok(World::lazy(alloc, program, &names).ok())
 }
 
 /// The start of these entries where these classes are initialized, whose static fields no initializer sets.
@@ -77,18 +87,47 @@ pub fn start_with(
     program: &Program,
     entries: &[&str],
     initialized: &[&str],
-) -> Result<World, Fail> {
-    let Ok(classes) = entry_classes(alloc, program, &names_of(alloc, entries)?) else {
-        return Err(Fail::new("no entries"));
-    };
-    let mut shared = lazy_shared(alloc, program, classes.len())?;
-    for name in names_of(alloc, initialized)?.iter() {
-        let Some(class) = program.number_of(alloc, name)? else {
-            return Err(Fail::new("no class"));
-        };
-        shared.initialize(alloc, class, Fields::new(alloc), Pool::new(alloc))?;
+) -> Result<Option<World>, AllocError> {
+    let names = names_of(alloc, entries)?;
+    match entry_classes(alloc, program, &names) {
+        Ok(classes) => start_over(alloc, program, &classes, initialized),
+        Err(_) => Ok(None),
     }
-    Ok(World::start(alloc, shared, &classes)?)
+}
+
+fn start_over(
+    alloc: Global,
+    program: &Program,
+    classes: &[u32],
+    initialized: &[&str],
+) -> Result<Option<World>, AllocError>
+    requires { length classes.now ≤ 64 }
+{
+    let mut shared = lazy_shared(alloc, program, classes.len())?;
+    if !initialize_all(alloc, program, &mut shared, initialized)? {
+        return Ok(None);
+    }
+    Ok(Some(World::start(alloc, shared, classes)?))
+}
+
+/// Initializes classes. Answers whether they are there.
+fn initialize_all(
+    alloc: Global,
+    program: &Program,
+    shared: &mut Shared,
+    names: &[&str],
+) -> Result<bool, AllocError> {
+    for name in names {
+        match program.number_of(alloc, &name_of(alloc, name)?)? {
+            Some(class) => initialize(alloc, shared, class)?,
+            None => return Ok(false),
+        }
+    }
+    Ok(true)
+}
+
+fn initialize(alloc: Global, shared: &mut Shared, class: u32) -> Result<(), AllocError> {
+    shared.initialize(alloc, class, Fields::new(alloc), Pool::new(alloc))
 }
 
 fn names_of(alloc: Global, texts: &[&str]) -> Result<Vec<ClassName>, AllocError> {

@@ -1,42 +1,41 @@
 //! Runs of threads, and how they end.
 
-use crate::programs::{EVER, LATE, M, RAISING, SPIN, TELL, Tape, program_of, start_of, start_with};
-use std::alloc::{AllocError, Global};
+use crate::programs::{EVER, LATE, M, RAISING, SPIN, TELL};
+use crate::replays::replay_text;
+use crate::shown::{Run, ends, has_journal, perform};
 use std::process::Abort;
+use std::sync::Wait;
 use std::test::*;
-use thread_runner::replay::replay;
-use thread_runner::{Gate, Open, RunFault, run_threads};
+use std::thread::Threads;
+use thread_runner::{Gate, Open};
+
+/// A run of one thread, which prints 7.
+pub const ONE: Run<'_> = Run {
+    classes: &[M],
+    entries: &["M"],
+    initialized: &[],
+    room: 100,
+    limit: 10_000,
+};
 
 #[test]
 fn one_thread_prints(rt: HostRuntime) -> Result<(), Fail> {
-    let program = program_of(rt.alloc(), M)?;
-    let world = start_of(rt.alloc(), &program, &["M"])?;
-    let tape = Tape::new(rt.alloc(), 100);
-    let (answer, tape) = run_threads(&rt, rt.alloc(), &program, world, &Open, tape, 10_000);
-    let Ok(ended) = answer else {
-        return Err(Fail::new("no end"));
-    };
-    assert_eq!(rt; tape.got.as_slice(), b"7\n".as_slice());
-    assert_eq!(rt;
-        ended.journal.text(rt.alloc())?.as_slice(),
-        b"0 7\n".as_slice()
-    );
+    let shown = perform(&rt, &ONE, &Open)?;
+    ends(&rt, &shown, "ended", "7\n");
+    has_journal(&rt, &shown, "0 7\n");
     Ok(())
 }
 
 #[test]
 fn local_instructions_are_counted(rt: HostRuntime) -> Result<(), Fail> {
-    let program = program_of(rt.alloc(), SPIN)?;
-    let world = start_of(rt.alloc(), &program, &["Spin"])?;
-    let tape = Tape::new(rt.alloc(), 100);
-    let (answer, _tape) = run_threads(&rt, rt.alloc(), &program, world, &Open, tape, 10_000);
-    let Ok(ended) = answer else {
-        return Err(Fail::new("no end"));
+    let run = Run {
+        classes: &[SPIN],
+        entries: &["Spin"],
+        ..ONE
     };
-    assert_eq!(rt;
-        ended.journal.text(rt.alloc())?.as_slice(),
-        b"0 3006\n".as_slice()
-    );
+    let shown = perform(&rt, &run, &Open)?;
+    ends(&rt, &shown, "ended", "");
+    has_journal(&rt, &shown, "0 3006\n");
     Ok(())
 }
 
@@ -45,72 +44,52 @@ fn local_instructions_are_counted(rt: HostRuntime) -> Result<(), Fail> {
 struct Asked;
 
 impl Gate for Asked {
-    fn ready(&self, _who: u32, _job: u64, _earlier: u32) -> bool {
+    fn ready(&self, _who: u32, _job: u64, _turn: u32) -> bool {
         true
     }
 
     fn done(&self, _who: u32, _job: u64) {}
 }
 
+/// A run of one thread that never ends, up to a limit.
+const LIMITED: Run<'_> = Run {
+    classes: &[EVER],
+    entries: &["Ever"],
+    initialized: &["Ever"],
+    room: 100,
+    limit: 5_000,
+};
+
 #[test]
 fn a_limit_ends_a_run(rt: HostRuntime) -> Result<(), Fail> {
-    let program = program_of(rt.alloc(), EVER)?;
-    let world = start_with(rt.alloc(), &program, &["Ever"], &["Ever"])?;
-    let tape = Tape::new(rt.alloc(), 100);
-    let (answer, _tape) = run_threads(&rt, rt.alloc(), &program, world, &Asked, tape, 5_000);
-    let Err(RunFault::Limit(ended)) = answer else {
-        return Err(Fail::new("no limit"));
-    };
-    assert_eq!(rt;
-        ended.journal.text(rt.alloc())?.as_slice(),
-        b"0 5120\n".as_slice()
-    );
+    let shown = perform(&rt, &LIMITED, &Asked)?;
+    ends(&rt, &shown, "limit", "");
+    has_journal(&rt, &shown, "0 5120\n");
     Ok(())
 }
 
 #[test]
 fn a_limit_ends_a_run_of_one_thread(rt: HostRuntime) -> Result<(), Fail> {
-    let program = program_of(rt.alloc(), EVER)?;
-    let world = start_with(rt.alloc(), &program, &["Ever"], &["Ever"])?;
-    let tape = Tape::new(rt.alloc(), 100);
-    let (answer, _tape) = run_threads(&rt, rt.alloc(), &program, world, &Open, tape, 5_000);
-    let Err(RunFault::Limit(ended)) = answer else {
-        return Err(Fail::new("no limit"));
-    };
-    assert_eq!(rt;
-        ended.journal.text(rt.alloc())?.as_slice(),
-        b"0 5121\n".as_slice()
-    );
+    let shown = perform(&rt, &LIMITED, &Open)?;
+    ends(&rt, &shown, "limit", "");
+    has_journal(&rt, &shown, "0 5121\n");
     Ok(())
-}
-
-/// How many steps a journal has.
-fn steps_in(runs: &[(u32, u64)]) -> u64 {
-    let mut sum = 0u64;
-    for run in runs {
-        sum = sum.wrapping_add(run.1);
-    }
-    sum
 }
 
 #[test]
 fn the_last_thread_goes_on_alone(rt: HostRuntime) -> Result<(), Fail> {
-    let text = format!(in rt.alloc(); "{LATE}\n{SPIN}\n{M}")?;
-    let program = program_of(rt.alloc(), &text)?;
-    let entries = ["M", "Late", "Spin"];
-    let world = start_of(rt.alloc(), &program, &entries)?;
-    let tape = Tape::new(rt.alloc(), 1_000);
-    let (answer, tape) = run_threads(&rt, rt.alloc(), &program, world, &Open, tape, 10_000);
-    let Ok(ended) = answer else {
-        return Err(Fail::new("no end"));
+    let run = Run {
+        classes: &[LATE, SPIN, M],
+        entries: &["M", "Late", "Spin"],
+        room: 1_000,
+        ..ONE
     };
-    assert_eq!(rt; steps_in(ended.journal.runs()), 7 + 606 + 3_006);
-    let again = start_of(rt.alloc(), &program, &entries)?;
-    let Ok(seen) = replay(rt.alloc(), &program, again, &ended.journal) else {
-        return Err(Fail::new("no replay"));
-    };
-    assert_eq!(rt; seen.printed.count(), 101);
-    assert_eq!(rt; tape.got.as_slice(), seen.printed.text_from(0));
+    let shown = perform(&rt, &run, &Open)?;
+    assert_eq!(rt; shown.end, "ended");
+    assert_eq!(rt; shown.steps, 7 + 606 + 3_006);
+    let replayed = replay_text(rt.alloc(), &run, &shown.journal)?;
+    assert_eq!(rt; replayed.prints, 101);
+    assert_eq!(rt; shown.got.as_slice(), replayed.text.as_slice());
     Ok(())
 }
 
@@ -119,86 +98,79 @@ const EVER_LIMIT: u64 = 100_000_000;
 
 #[test]
 fn a_limit_ends_the_last_thread(rt: HostRuntime) -> Result<(), Fail> {
-    let text = format!(in rt.alloc(); "{EVER}\n{M}")?;
-    let program = program_of(rt.alloc(), &text)?;
-    let world = start_of(rt.alloc(), &program, &["Ever", "M"])?;
-    let tape = Tape::new(rt.alloc(), 100);
-    let (answer, tape) = run_threads(&rt, rt.alloc(), &program, world, &Open, tape, EVER_LIMIT);
-    let Err(RunFault::Limit(ended)) = answer else {
-        return Err(Fail::new("no limit"));
+    let run = Run {
+        classes: &[EVER, M],
+        entries: &["Ever", "M"],
+        limit: EVER_LIMIT,
+        ..ONE
     };
-    let steps = steps_in(ended.journal.runs());
-    assert!(rt; EVER_LIMIT <= steps && steps < EVER_LIMIT + 1_024);
-    assert_eq!(rt; tape.got.as_slice(), ended.seen.printed.text_from(0));
+    let shown = perform(&rt, &run, &Open)?;
+    assert_eq!(rt; shown.end, "limit");
+    assert!(rt; EVER_LIMIT <= shown.steps && shown.steps < EVER_LIMIT + 1_024);
+    assert!(rt; shown.is_told);
     Ok(())
 }
 
 #[test]
 fn what_the_last_thread_prints_goes_out_while_it_runs(rt: HostRuntime) -> Result<(), Fail> {
-    let text = format!(in rt.alloc(); "{TELL}\n{M}")?;
-    let program = program_of(rt.alloc(), &text)?;
-    let world = start_of(rt.alloc(), &program, &["M", "Tell"])?;
-    let tape = Tape::new(rt.alloc(), 1_000);
-    let (answer, tape) = run_threads(
-        &rt,
-        rt.alloc(),
-        &program,
-        world,
-        &Open,
-        tape,
-        1_000_000_000_000,
-    );
-    let Err(RunFault::Device(sent)) = answer else {
-        return Err(Fail::new("no fault"));
+    let run = Run {
+        classes: &[TELL, M],
+        entries: &["M", "Tell"],
+        initialized: &[],
+        room: 1_000,
+        limit: 1_000_000_000_000,
     };
-    assert_eq!(rt; sent, 1_000);
-    assert_eq!(rt; tape.got.len(), 1_000);
+    let shown = perform(&rt, &run, &Open)?;
+    assert_eq!(rt; shown.end, "device");
+    assert_eq!(rt; shown.sent, 1_000);
+    assert_eq!(rt; shown.got.len(), 1_000);
     Ok(())
 }
 
 #[test]
 fn threads_of_two_classes_end(rt: HostRuntime) -> Result<(), Fail> {
-    let text = format!(in rt.alloc(); "{SPIN}\n{M}")?;
-    let program = program_of(rt.alloc(), &text)?;
-    let world = start_of(rt.alloc(), &program, &["M", "Spin", "M"])?;
-    let tape = Tape::new(rt.alloc(), 100);
-    let (answer, tape) = run_threads(&rt, rt.alloc(), &program, world, &Open, tape, 10_000);
-    let Ok(ended) = answer else {
-        return Err(Fail::new("no end"));
+    let run = Run {
+        classes: &[SPIN, M],
+        entries: &["M", "Spin", "M"],
+        ..ONE
     };
-    assert_eq!(rt; tape.got.as_slice(), b"7\n7\n".as_slice());
-    assert_eq!(rt; steps_in(ended.journal.runs()), 7 + 3006 + 5);
+    let shown = perform(&rt, &run, &Open)?;
+    ends(&rt, &shown, "ended", "7\n7\n");
+    assert_eq!(rt; shown.steps, 7 + 3006 + 5);
+    Ok(())
+}
+
+/// A run into sinks that fail before this text is out gets its beginning out.
+fn fails_before<R: Threads + Wait + Abort + AllocGlobal + Sync, G: Gate>(
+    rt: &R,
+    run: Run<'_>,
+    gate: &G,
+    text: &str,
+) -> Result<(), Fail> {
+    for room in 0..text.len() {
+        let shown = perform(rt, &Run { room, ..run }, gate)?;
+        ends(rt, &shown, "device", text.get(..room).unwrap_or(""));
+        assert_eq!(rt; shown.sent, room as u128);
+    }
     Ok(())
 }
 
 #[test]
 fn a_sink_that_fails_ends_a_run(rt: HostRuntime) -> Result<(), Fail> {
-    let program = program_of(rt.alloc(), M)?;
-    for room in 0..2 {
-        let world = start_of(rt.alloc(), &program, &["M", "M", "M"])?;
-        let tape = Tape::new(rt.alloc(), room);
-        let (answer, tape) = run_threads(&rt, rt.alloc(), &program, world, &Open, tape, 10_000);
-        let Err(RunFault::Device(sent)) = answer else {
-            return Err(Fail::new("no fault"));
-        };
-        assert_eq!(rt; sent, room as u128);
-        assert_eq!(rt; tape.got.len(), room);
-    }
-    Ok(())
+    let run = Run {
+        entries: &["M", "M", "M"],
+        ..ONE
+    };
+    fails_before(&rt, run, &Open, "7\n")
 }
 
 #[test]
 fn a_raising_initializer_prints_into_sinks_that_fail(rt: HostRuntime) -> Result<(), Fail> {
-    let program = program_of(rt.alloc(), RAISING)?;
-    for room in 0..4 {
-        let world = start_with(rt.alloc(), &program, &["Main8"], &["Main8"])?;
-        let tape = Tape::new(rt.alloc(), room);
-        let (answer, tape) = run_threads(&rt, rt.alloc(), &program, world, &Asked, tape, 10_000);
-        let Err(RunFault::Device(sent)) = answer else {
-            return Err(Fail::new("no fault"));
-        };
-        assert_eq!(rt; sent, room as u128);
-        assert_eq!(rt; Some(tape.got.as_slice()), b"1\n2\n".as_slice().get(..room));
-    }
-    Ok(())
+    let run = Run {
+        classes: &[RAISING],
+        entries: &["Main8"],
+        initialized: &["Main8"],
+        ..ONE
+    };
+    fails_before(&rt, run, &Asked, "1\n2\n")
 }

@@ -1,9 +1,6 @@
 //! Workers that meet in a gate. Each wait ends after ten seconds, and the tests demand that none did.
 
-ghost use Rattle.std.specs.Prelude.{IfOk};
-
-use crate::programs::program_of;
-use crate::settled::{BUDGET, sixty_four, value_of, verdicts_of, wave_of};
+use crate::settled::{all_sixty_four, settled_by, sixty_four};
 use evaluator::outcome::Outcome;
 use evaluator::settling::settle;
 use program::Program;
@@ -17,9 +14,7 @@ use std::test::*;
 use std::thread;
 use std::thread::Threads;
 use std::time::Duration;
-use vm_state::value::Value;
-use wave_scheduler::outcome::Settled;
-use wave_scheduler::{Gate, settle_all};
+use wave_scheduler::Gate;
 
 /// How often a wait sleeps for a millisecond at most.
 const SLEEPS: u32 = 10_000;
@@ -96,32 +91,33 @@ impl<'a, R: Clock + Sync> Gate for Meet<'a, R> {
 }
 
 /// Each of the sixty-four classes is accepted, and has added one to its number.
-fn each_is_settled<R: Abort>(rt: &R, settled: &Settled) -> Result<(), Fail> {
-    for class in 0..64u32 {
-        assert_eq!(rt; wave_of(settled, class as usize), Some(0));
-        assert_eq!(rt;
-            value_of(settled, class, 1),
-            Some(Value::Int(class as i32 + 1))
-        );
-    }
+fn each_is_settled<R: Threads + Wait + Abort + AllocGlobal + Sync, G: Gate>(
+    rt: &R,
+    workers: u32,
+    gate: &G,
+) -> Result<(), Fail> {
+    let classes = sixty_four(rt.alloc())?;
+    let settled = settled_by(rt, &classes, workers, gate)?;
+    let wanted = all_sixty_four(rt.alloc())?;
+    assert_eq!(rt; settled.as_str(), wanted.as_str());
     Ok(())
+}
+
+/// A gate has counted so many.
+fn has_counted<R: Abort>(rt: &R, count: &AtomicU64, wanted: u64) {
+    assert_eq!(rt; count.load(Ordering::SeqCst), wanted);
 }
 
 fn workers_meet<R: Threads + Wait + Abort + Clock + AllocGlobal + Sync>(
     rt: &R,
     workers: u32,
 ) -> Result<(), Fail> {
-    let program = program_of(rt.alloc(), &sixty_four(rt.alloc())?)?;
-    let verdicts = verdicts_of(rt.alloc(), &program)?;
     let gate = Meet::new(rt, workers);
-    let Ok(settled) = settle_all(rt, rt.alloc(), &program, verdicts, BUDGET, workers, &gate) else {
-        return Err(Fail::new("not settled"));
-    };
-    each_is_settled(rt, &settled)?;
-    assert_eq!(rt; gate.late.load(Ordering::SeqCst), 0);
-    assert_eq!(rt; gate.asked.load(Ordering::SeqCst), 128);
-    assert_eq!(rt; gate.by_workers.load(Ordering::SeqCst), 64);
-    assert_eq!(rt; gate.by_caller.load(Ordering::SeqCst), 0);
+    each_is_settled(rt, workers, &gate)?;
+    has_counted(rt, &gate.late, 0);
+    has_counted(rt, &gate.asked, 128);
+    has_counted(rt, &gate.by_workers, 64);
+    has_counted(rt, &gate.by_caller, 0);
     Ok(())
 }
 
@@ -172,18 +168,12 @@ impl Gate for Poor {
 
 #[test]
 fn the_caller_settles_what_no_worker_did(rt: HostRuntime) -> Result<(), Fail> {
-    let program = program_of(rt.alloc(), &sixty_four(rt.alloc())?)?;
-    let verdicts = verdicts_of(rt.alloc(), &program)?;
     let gate = Poor {
         by_workers: AtomicU64::new(0),
         by_caller: AtomicU64::new(0),
     };
-    let workers = POOR_WORKERS;
-    let Ok(settled) = settle_all(&rt, rt.alloc(), &program, verdicts, BUDGET, workers, &gate) else {
-        return Err(Fail::new("not settled"));
-    };
-    each_is_settled(&rt, &settled)?;
-    assert_eq!(rt; gate.by_workers.load(Ordering::SeqCst), 0);
-    assert_eq!(rt; gate.by_caller.load(Ordering::SeqCst), 64);
+    each_is_settled(&rt, POOR_WORKERS, &gate)?;
+    has_counted(&rt, &gate.by_workers, 0);
+    has_counted(&rt, &gate.by_caller, 64);
     Ok(())
 }
