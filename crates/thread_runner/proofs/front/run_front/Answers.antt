@@ -43,5 +43,5 @@ returns-in-Some g c =
     } in
     subst (λ (P : Tables). IsRunOf P c.args.done.now c.args.most c.args.front s) c.requires.program
     (is_run_of c.args.program.now c.args.front c.args.most c.in-Ok.count c.args.start c.run_local.new.frames
-    c.requires.start c.in-Some.to c.in-Some.is c.in-Ok.asked.items c.args.done.now c.in-Ok.ensures.steps c.in-Ok.ensures.wide
-    c.in-Ok.ensures.most c.in-Ok.ensures.ends)
+    c.requires.start c.in-Some.to c.in-Some.is c.in-Ok.asked.items c.args.done.now c.in-Ok.ensures.steps
+    c.in-Ok.ensures.wide c.in-Ok.ensures.most c.in-Ok.ensures.ends)
