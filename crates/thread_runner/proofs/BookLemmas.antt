@@ -134,13 +134,17 @@ grows_by turns.Ended old new same = grows_none old new same
 abbrev pub past_of : Standing → List (ℕ × ℕ) → ℕ → Past
 past_of w j limit = record { world = w; journal = j; limit = limit }
 
-pub goes_none : (h : Past) (w : Standing) (j : List (ℕ × ℕ)) → world_of w ≡ world_of h.world
+pub goes_still : (h : Past) (w : Standing) (j : List (ℕ × ℕ)) → w.printed ≡ h.world.printed
     → length w.threads ≡ length h.world.threads → GoesOn h (past_of w j h.limit)
-goes_none h w j same threads = record {
-  grows = grows_none h.world.printed w.printed (printed_same w h.world same);
+goes_still h w j printed threads = record {
+  grows = grows_none h.world.printed w.printed printed;
   threads = threads;
   limit = refl;
 }
+
+pub goes_none : (h : Past) (w : Standing) (j : List (ℕ × ℕ)) → world_of w ≡ world_of h.world
+    → length w.threads ≡ length h.world.threads → GoesOn h (past_of w j h.limit)
+goes_none h w j same threads = goes_still h w j (printed_same w h.world same) threads
 
 pub goes_by : (h : Past) (w : Standing) (j : List (ℕ × ℕ)) (turn : Turn) → Prints turn h.world.printed w.printed
     → length w.threads ≡ length h.world.threads → GoesOn h (past_of w j h.limit)

@@ -7,7 +7,7 @@ ghost use Rattle.init_engine.specs.Schedules.{AreRuns};
 ghost use Rattle.init_engine.specs.Stacks.{AreFrames, front_of};
 ghost use Rattle.init_engine.specs.Turns.{world_of};
 ghost use Rattle.thread_runner.specs.Commits.{IsCommit, PagesGoOn, Same};
-ghost use Rattle.thread_runner.specs.Fronts.{IsFrontCommit};
+ghost use Rattle.thread_runner.specs.Fronts.{IsFrontCommit, IsRunCommit};
 ghost use Rattle.thread_runner.specs.Kept.{IsKept, printed_text, steps_of};
 ghost use Rattle.thread_runner.specs.Local.{AreDone, is_done};
 ghost use Rattle.courses.specs.steps.StepTables.{KeepsSteps};
@@ -15,7 +15,7 @@ ghost use Rattle.thread_runner.specs.Sendings.{AreOfPrints, SendsOn};
 ghost use Rattle.thread_runner.specs.steps.Alone.{CanRunOn, RunsOn};
 
 use crate::done_set::DoneSet;
-use crate::front::FrontStretch;
+use crate::front::{FrontRun, FrontStretch};
 use crate::history::{Commit, History};
 use crate::last::Slice;
 use crate::origin::Origin;
@@ -183,6 +183,24 @@ impl<O: Origin> Book<O> {
         ensures memory { OnErr result (Same self.old.past self.new.past) }
     {
         self.history.commit_front(alloc, program, thread, made)
+    }
+
+    /// The steps of a run on a front, and no other.
+    ///
+    /// # Errors
+    /// `AllocError` where memory is refused; nothing has changed then.
+    pub(crate) fn commit_run(
+        &mut self,
+        alloc: Global,
+        thread: u32,
+        run: FrontRun<O>,
+    ) -> Result<Commit, AllocError>
+        requires { thread < length self.old.past.world.threads }
+        ensures answer { IfOk result (λ a. IsRunCommit self.old.past thread run a self.new.past) }
+        ensures goes_on { PagesGoOn self.old self.new }
+        ensures memory { OnErr result (Same self.old.past self.new.past) }
+    {
+        self.history.commit_run(alloc, thread, run)
     }
 
     /// How many bytes of what was printed have gone out.

@@ -16,7 +16,7 @@ ghost use Rattle.thread_runner.specs.steps.Verdicts.{IsVerdict};
 use crate::answer::{Ended, RunFault, end_with};
 use crate::book::Book;
 use crate::done_set::DoneSet;
-use crate::front::FrontStretch;
+use crate::front::{FrontRun, FrontStretch};
 use crate::history::Commit;
 use crate::origin::Origin;
 use init_engine::Rest;
@@ -185,6 +185,27 @@ impl<O: Session, S: Sink> Desk<O, S> {
         }
         match self.book.commit_front(alloc, program, thread, made) {
             Ok(answer) => self.follow(program, answer),
+            Err(_) => {
+                self.end_for_memory();
+                Next::Leave
+            }
+        }
+    }
+
+    /// A commit of a run of local instructions alone: nothing was printed, and no other thread waits for it.
+    pub(crate) fn commit_run(&mut self, alloc: Global, thread: u32, run: FrontRun<O>) -> Next
+        requires { thread < length O.start.threads }
+    {
+        if self.over {
+            return Next::Leave;
+        }
+        match self.book.commit_run(alloc, thread, run) {
+            Ok(Commit::Moved) => Next::Moved,
+            Ok(Commit::Full) => {
+                self.end();
+                Next::Leave
+            }
+            Ok(_) => Next::Again,
             Err(_) => {
                 self.end_for_memory();
                 Next::Leave

@@ -4,7 +4,7 @@ ghost use Rattle.std.specs.Prelude.{◌≡◌, ◌<◌, ◌≤◌, ◌∷◌, []
 ghost use Rattle.vm_state.specs.Segments.{frames_of};
 ghost use Rattle.semantics.specs.Steps.{Going};
 ghost use Rattle.machine.specs.Effects.{going};
-ghost use Rattle.thread_runner.specs.Fronts.{IsFrontRun, LeadsOn};
+ghost use Rattle.thread_runner.specs.Fronts.{IsRunUpTo, LeadsOn};
 
 use crate::done_set::DoneSet;
 use crate::origin::Origin;
@@ -16,11 +16,10 @@ use std::marker::{Model, PhantomData};
 use vm_state::frame::{Frame, FrameList, Segment};
 use vm_state::initialization::Frames;
 
-/// Local instructions that one thread did on its innermost frame and on the calls that it made from there. Contracts
-/// see that frame, the classes that it asked for, how many instructions it did, and the frames in the place of that
-/// one.
-#[derive(Drop)]
-pub struct FrontStretch<O: Origin> {
+/// Local instructions that one thread did on its innermost frame and on the calls that it made from there: 1,024 at
+/// most, as many as one commit counts. Contracts see that frame, the classes that it asked for, how many instructions
+/// it did, and the frames in the place of that one.
+pub(crate) struct FrontRun<O: Origin> {
     from: Frame,
     asked: Vec<u32>,
     count: u64,
@@ -28,7 +27,7 @@ pub struct FrontStretch<O: Origin> {
     of: PhantomData<O>,
 }
 
-impl<O: Origin> Model for FrontStretch<O> {
+impl<O: Origin> Model for FrontRun<O> {
     ghost use Rattle.std.specs.Prelude.{◌≡◌, ◌<◌, ◌≤◌};
     ghost use Rattle.vm_state.specs.Segments.{frames_of};
     ghost use Rattle.thread_runner.specs.Fronts.{FrontReach, LeadsOn};
@@ -38,8 +37,38 @@ impl<O: Origin> Model for FrontStretch<O> {
     ghost view = { λ s. record { from = s.from; asked = s.asked.items; count = s.count; to = frames_of s.to } };
 
     // Local steps, as many as it counts, lead on from its frame.
-    ghost invariant = { λ s. (0 < s.count) × (s.count ≤ 1023) × LeadsOn O.program
+    ghost invariant = { λ s. (0 < s.count) × (s.count ≤ 1024) × LeadsOn O.program
         (record { from = s.from; asked = s.asked.items; count = s.count; to = frames_of s.to }) };
+}
+
+// By hand, since a derived one is proved anew wherever a run is let go.
+impl<O: Origin> Drop for FrontRun<O> {
+    fn drop(self) {
+        let FrontRun {
+            from: _,
+            asked: _,
+            count: _,
+            to: _,
+            of: _,
+        } = self;
+    }
+}
+
+/// A run on a front after which one step more is tried: of 1,023 instructions at most.
+#[derive(Drop)]
+pub struct FrontStretch<O: Origin> {
+    run: FrontRun<O>,
+}
+
+impl<O: Origin> Model for FrontStretch<O> {
+    ghost use Rattle.std.specs.Prelude.{◌≤◌};
+    ghost use Rattle.thread_runner.specs.Fronts.{FrontReach};
+
+    ghost Value = { FrontReach };
+
+    ghost view = { λ s. s.run };
+
+    ghost invariant = { λ s. s.run.count ≤ 1023 };
 }
 
 /// The frames of a thread that has this one alone.
@@ -68,13 +97,16 @@ fn run_front<O: Origin>(
     front: Frame,
     start: Frames,
     done: &DoneSet,
-) -> Result<Option<FrontStretch<O>>, AllocError>
+    most: u64,
+) -> Result<Option<FrontRun<O>>, AllocError>
     requires program { program.now ≡ O.program }
     requires start { going start ≡ Going (front ∷ []) [] }
-    ensures { IfOk result (λ made. IsFrontRun O.program done.now front made) }
+    requires some { 0 < most }
+    requires few { most ≤ 1024 }
+    ensures { IfOk result (λ made. IsRunUpTo O.program done.now most front made) }
 {
     let mut frames = start;
-    match run_local(alloc, program, tools, done, &mut frames) {
+    match run_local(alloc, program, tools, done, &mut frames, most) {
         Ok((count, asked)) => {
             if count == 0 {
                 return Ok(None);
@@ -85,7 +117,7 @@ fn run_front<O: Origin>(
                 levels: _,
             } = frames;
             let Some(to) = segment else { unreachable!() };
-            Ok(Some(FrontStretch {
+            Ok(Some(FrontRun {
                 from: front,
                 asked,
                 count,
@@ -97,21 +129,24 @@ fn run_front<O: Origin>(
     }
 }
 
-/// Runs up to 1,023 local instructions of a thread on its innermost frame, over classes that it takes to be
+/// Runs at most `most` local instructions of a thread on its innermost frame, over classes that it takes to be
 /// initialized, if the first is one. It ends earlier only where the next one is not local or leaves that frame.
 ///
 /// # Errors
 /// `AllocError` where memory is refused.
-pub(crate) fn stretch_on<O: Origin>(
+pub(crate) fn run_from<O: Origin>(
     alloc: Global,
     program: &Program,
     tools: &mut Tools<O>,
     thread: u32,
     front: Frame,
     done: &DoneSet,
-) -> Result<Option<FrontStretch<O>>, AllocError>
-    requires { program.now ≡ O.program }
-    ensures { IfOk result (λ made. IsFrontRun O.program done.now front made) }
+    most: u64,
+) -> Result<Option<FrontRun<O>>, AllocError>
+    requires program { program.now ≡ O.program }
+    requires some { 0 < most }
+    requires few { most ≤ 1024 }
+    ensures { IfOk result (λ made. IsRunUpTo O.program done.now most front made) }
 {
     match front.copy(alloc) {
         Ok(copy) => run_front(
@@ -121,32 +156,13 @@ pub(crate) fn stretch_on<O: Origin>(
             front,
             alone(alloc, thread, copy),
             done,
+            most,
         ),
         Err(error) => Err(error),
     }
 }
 
-/// Runs up to 1,023 local instructions of a thread on its innermost frame, if it has one. Else there is no stretch.
-///
-/// # Errors
-/// `AllocError` where memory is refused.
-pub(crate) fn next_front<O: Origin>(
-    alloc: Global,
-    program: &Program,
-    tools: &mut Tools<O>,
-    thread: u32,
-    front: Option<Frame>,
-    done: &DoneSet,
-) -> Result<Option<FrontStretch<O>>, AllocError>
-    requires { program.now ≡ O.program }
-{
-    match front {
-        Some(frame) => stretch_on(alloc, program, tools, thread, frame, done),
-        None => Ok(None),
-    }
-}
-
-impl<O: Origin> FrontStretch<O> {
+impl<O: Origin> FrontRun<O> {
     /// The frame that it took.
     pub(crate) fn from(&self) -> &Frame
         ensures { result.now ≡ self.now.from }
@@ -165,9 +181,17 @@ impl<O: Origin> FrontStretch<O> {
     pub(crate) fn count(&self) -> u64
         ensures is { result ≡ self.now.count }
         ensures some { 0 < result }
-        ensures most { result ≤ 1023 }
+        ensures most { result ≤ 1024 }
     {
         self.count
+    }
+
+    /// A copy of the innermost frame where it ended.
+    ///
+    /// # Errors
+    /// `AllocError` where memory is refused.
+    pub(crate) fn end(&self, alloc: Global) -> Result<Frame, AllocError> {
+        self.to.innermost.copy(alloc)
     }
 
     /// The frames in the place of the one that it took.
@@ -175,6 +199,31 @@ impl<O: Origin> FrontStretch<O> {
         ensures is { frames_of result ≡ self.to }
         ensures leads { LeadsOn O.program self }
     {
-        self.to
+        let FrontRun {
+            from: _,
+            asked: _,
+            count: _,
+            to,
+            of: _,
+        } = self;
+        to
+    }
+
+    /// As a stretch.
+    pub(crate) fn into_stretch(self) -> FrontStretch<O>
+        requires { self.count ≤ 1023 }
+        ensures { result ≡ self }
+    {
+        FrontStretch { run: self }
+    }
+}
+
+impl<O: Origin> FrontStretch<O> {
+    /// As a run.
+    pub(crate) fn into_run(self) -> FrontRun<O>
+        ensures is { result ≡ self }
+        ensures few { result.count ≤ 1023 }
+    {
+        self.run
     }
 }

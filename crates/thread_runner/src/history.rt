@@ -6,8 +6,11 @@ ghost use Rattle.semantics.specs.Worlds.{Run};
 ghost use Rattle.machine.specs.Linked.{program_of};
 ghost use Rattle.init_engine.specs.Schedules.{schedule_of, AreRuns};
 ghost use Rattle.init_engine.specs.Turns.{world_of};
-ghost use Rattle.thread_runner.specs.Commits.{Fits, GoesOn, IsCommit, IsCounted, Same};
-ghost use Rattle.thread_runner.specs.Fronts.{FitsFront, IsFrontCommit};
+ghost use Rattle.vm_state.specs.declared.frame.Frame.{Frame as Held};
+ghost use Rattle.vm_state.specs.Segments.{frames_of};
+ghost use Rattle.init_engine.specs.Stacks.{front_of};
+ghost use Rattle.thread_runner.specs.Commits.{Fits, GoesOn, Grew, IsCommit, IsCounted, Same};
+ghost use Rattle.thread_runner.specs.Fronts.{FitsFront, IsFrontCommit, IsRunCommit, with_top};
 ghost use Rattle.thread_runner.specs.Kept.{IsKept, steps_of};
 ghost use Rattle.courses.specs.steps.StepTables.{KeepsSteps};
 ghost use Rattle.thread_runner.specs.steps.Advances.{answered};
@@ -15,17 +18,19 @@ ghost use Rattle.thread_runner.specs.steps.Alone.{CanRunOn, RunsOn};
 ghost use Rattle.thread_runner.specs.steps.Landings.{MayLand, landed};
 
 use crate::advance::{all_done, all_initialized, counted};
-use crate::front::FrontStretch;
+use crate::front::{FrontRun, FrontStretch};
 use crate::landing::{Landing, land};
 use crate::last::{Slice, run_in};
 use crate::origin::Origin;
 use crate::stretch::Stretch;
+use crate::top::put_in;
 use courses::step_table::StepTable;
 use init_engine::{Turn, World};
 use journal::runs::add_steps;
 use program::Program;
 use std::alloc::{AllocError, Global};
 use std::marker::{Model, PhantomData};
+use vm_state::frame::Segment;
 use vm_state::initialization::Frames;
 
 /// The answer to a commit.
@@ -228,20 +233,19 @@ impl<O: Origin> History<O> {
         self.count_steps(alloc, program, thread, to, count)
     }
 
-    /// Whether a stretch begins at the innermost frame of its thread, and the classes that it asked for are
-    /// initialized.
-    fn fits_front(&self, thread: u32, stretch: &FrontStretch<O>) -> bool
+    /// Whether a run begins at the innermost frame of its thread, and the classes that it asked for are initialized.
+    fn fits_front(&self, thread: u32, run: &FrontRun<O>) -> bool
         requires { thread < length self.now.world.threads }
-        ensures yes { result ≡ true → FitsFront (world_of self.now.world) thread (Some stretch.now) }
-        ensures no { result ≡ false → ¬ FitsFront (world_of self.now.world) thread (Some stretch.now) }
+        ensures yes { result ≡ true → FitsFront (world_of self.now.world) thread (Some run.now) }
+        ensures no { result ≡ false → ¬ FitsFront (world_of self.now.world) thread (Some run.now) }
     {
-        if !self.world.has_front(thread, stretch.from()) {
+        if !self.world.has_front(thread, run.from()) {
             return false;
         }
-        all_initialized(&self.world, stretch.asked())
+        all_initialized(&self.world, run.asked())
     }
 
-    /// The steps of a stretch on a front, and one more where there is one.
+    /// The steps of a run on a front, and one more where there is one.
     ///
     /// # Errors
     /// `AllocError` where memory is refused; nothing has changed then.
@@ -250,22 +254,23 @@ impl<O: Origin> History<O> {
         alloc: Global,
         program: &Program,
         thread: u32,
-        stretch: FrontStretch<O>,
+        run: FrontRun<O>,
     ) -> Result<Commit, AllocError>
         requires program { program.now ≡ O.program }
         requires thread { thread < length self.old.world.threads }
-        ensures answer { IfOk result (λ a. IsFrontCommit O.program self.old thread (Some stretch) a self.new) }
+        requires few { run.count ≤ 1023 }
+        ensures answer { IfOk result (λ a. IsFrontCommit O.program self.old thread (Some run) a self.new) }
         ensures goes_on { GoesOn self.old self.new }
         ensures memory { OnErr result (Same self.old self.new) }
     {
         if self.is_full() {
             return Ok(Commit::Full);
         }
-        if !self.fits_front(thread, &stretch) {
+        if !self.fits_front(thread, &run) {
             return Ok(Commit::Stale);
         }
-        let count = stretch.count();
-        let to = Landing::Top(stretch.into_top());
+        let count = run.count();
+        let to = Landing::Top(run.into_top());
         self.count_steps(alloc, program, thread, to, count)
     }
 
@@ -314,8 +319,66 @@ impl<O: Origin> History<O> {
         ensures memory { OnErr result (Same self.old self.new) }
     {
         match made {
-            Some(stretch) => self.commit_on_front(alloc, program, thread, stretch),
+            Some(stretch) => self.commit_on_front(alloc, program, thread, stretch.into_run()),
             None => self.commit_none(alloc, program, thread),
+        }
+    }
+
+    /// Puts frames in the place of a thread's innermost one, to which so many steps lead.
+    ///
+    /// # Errors
+    /// `AllocError` where memory is refused; nothing has changed then.
+    fn take_steps(
+        &mut self,
+        alloc: Global,
+        thread: u32,
+        to: Segment,
+        count: u64,
+    ) -> Result<(), AllocError>
+        requires thread { thread < length self.old.world.threads }
+        requires front { (f : Held) × (front_of (world_of self.old.world) thread ≡ Some f) }
+        requires most { count ≤ 1024 }
+        requires below { steps_of self.old < self.old.limit }
+        requires led { Run (program_of O.program) (world_of self.old.world) (replicate count thread)
+            (with_top (world_of self.old.world) thread (frames_of to)) }
+        ensures grew { OnOk result (Grew self.old thread (with_top (world_of self.old.world) thread (frames_of to))
+            count self.new) }
+        ensures goes_on { GoesOn self.old self.new }
+        ensures memory { OnErr result (Same self.old self.new) }
+    {
+        self.journal.reserve(1)?;
+        let under = put_in(alloc, &mut self.world, thread, to)?;
+        drop(under);
+        add_some(&mut self.journal, thread, count);
+        self.steps += count;
+        Ok(())
+    }
+
+    /// The steps of a run on a front, and no other.
+    ///
+    /// # Errors
+    /// `AllocError` where memory is refused; nothing has changed then.
+    pub(crate) fn commit_run(
+        &mut self,
+        alloc: Global,
+        thread: u32,
+        run: FrontRun<O>,
+    ) -> Result<Commit, AllocError>
+        requires { thread < length self.old.world.threads }
+        ensures answer { IfOk result (λ a. IsRunCommit self.old thread run a self.new) }
+        ensures goes_on { GoesOn self.old self.new }
+        ensures memory { OnErr result (Same self.old self.new) }
+    {
+        if self.is_full() {
+            return Ok(Commit::Full);
+        }
+        if !self.fits_front(thread, &run) {
+            return Ok(Commit::Stale);
+        }
+        let count = run.count();
+        match self.take_steps(alloc, thread, run.into_top(), count) {
+            Ok(()) => Ok(Commit::Moved),
+            Err(error) => Err(error),
         }
     }
 

@@ -2,7 +2,10 @@
 
 use crate::done_set::DoneSet;
 
-/// A set of classes is asked for anew after one commit for each 64 given classes.
+/// After how many commits a set of classes is asked for anew, if few are given: who knows too few only commits earlier.
+const COMMITS: u32 = 16;
+
+/// For each so many given classes it is one commit more.
 const SHARE: u32 = 64;
 
 /// Classes that a thread knows to be initialized, and for how many commits it does with them.
@@ -31,7 +34,7 @@ impl KnownClasses {
         match asked {
             Some(done) => {
                 self.done = done;
-                self.left = given / SHARE;
+                self.left = COMMITS + given / SHARE;
             }
             None => self.left = self.left.saturating_sub(1),
         }

@@ -16,6 +16,7 @@ mod landing;
 mod last;
 pub mod laws;
 mod local_step;
+mod made;
 pub mod origin;
 pub mod replay;
 mod run;

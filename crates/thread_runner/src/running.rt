@@ -7,9 +7,9 @@ ghost use Rattle.thread_runner.specs.Local.{local_step};
 ghost use Rattle.thread_runner.specs.Stretches.{Leads};
 
 use crate::done_set::DoneSet;
-use crate::front::{FrontStretch, stretch_on};
+use crate::front::{FrontStretch, run_from};
 use crate::origin::Origin;
-use crate::stretch::{Stretch, stretch_of};
+use crate::stretch::{MOST, Stretch, stretch_of};
 use crate::tools::Tools;
 use program::Program;
 use std::alloc::{AllocError, Global};
@@ -59,5 +59,9 @@ pub fn front_stretch<O: Origin>(
     ensures { IfOk result (λ made. IsFrontRun O.program done.now front made) }
 {
     let mut tools = Tools::<O>::new(alloc);
-    stretch_on(alloc, program, &mut tools, thread, front, done)
+    match run_from(alloc, program, &mut tools, thread, front, done, MOST) {
+        Ok(Some(run)) => Ok(Some(run.into_stretch())),
+        Ok(None) => Ok(None),
+        Err(error) => Err(error),
+    }
 }

@@ -21,7 +21,7 @@ use vm_state::initialization::Frames;
 
 /// The frame that others took the place of, and how many of them are callers.
 #[derive(Drop)]
-struct Under {
+pub(crate) struct Under {
     innermost: Frame,
     above: u64,
 }
@@ -181,7 +181,12 @@ fn no_frames(thread: u32) -> Frames
 ///
 /// # Errors
 /// `AllocError` where memory is refused; the world is as it was.
-fn put_in(alloc: Global, world: &mut World, thread: u32, top: Segment) -> Result<Under, AllocError>
+pub(crate) fn put_in(
+    alloc: Global,
+    world: &mut World,
+    thread: u32,
+    top: Segment,
+) -> Result<Under, AllocError>
     requires thread { thread < length world.old.threads }
     requires front { (f : Held) × (front_of (world_of world.old) thread ≡ Some f) }
     ensures put { (f : Held) (fs : List Held) (ls : List Level)

@@ -3,14 +3,16 @@
 ghost use Rattle.std.specs.Prelude.{◌≡◌, ◌<◌, length};
 
 use crate::desk::{Desk, Front, Next, Session};
-use crate::front::{FrontStretch, next_front};
+use crate::front::{FrontRun, FrontStretch};
 use crate::gate::{Gate, ask};
 use crate::known::KnownClasses;
+use crate::made::{Made, make};
 use crate::tools::Tools;
 use program::Program;
 use sinks::Sink;
 use std::alloc::Global;
 use std::sync::{Condvar, Mutex, Wait};
+use vm_state::frame::Frame;
 
 /// Runs one thread to its end, or to that of the run.
 pub(crate) fn work<O: Session, S: Sink, G: Gate, R: Wait>(
@@ -37,14 +39,19 @@ pub(crate) fn work<O: Session, S: Sink, G: Gate, R: Wait>(
         };
         ask(gate, thread, job);
         known.renew(done, program.given_count());
-        let made = next_front(alloc, program, &mut tools, thread, frame, known.done());
+        let made = make(alloc, program, &mut tools, thread, frame, known.done());
         gate.done(thread, job);
         let Ok(made) = made else {
             desk.lock(rt).end_for_memory();
             moved.notify_all();
             return;
         };
-        let (moves, next) = locked.commit(rt, alloc, program, thread, made, known.is_old());
+        let (moves, next) = match made {
+            Made::Stretch(stretch) => {
+                locked.commit(rt, alloc, program, thread, stretch, known.is_old())
+            }
+            Made::Run(run, end) => locked.commit_run(rt, alloc, program, thread, run, end),
+        };
         if moves {
             job = job.wrapping_add(1);
         }
@@ -108,5 +115,29 @@ impl<'a, O: Session, S: Sink> LockedDesk<'a, O, S> {
             self.moved.notify_all();
         }
         (moves, front)
+    }
+
+    /// Commits a run, and answers whether the thread has moved or leaves, and what it takes along if it goes on: the
+    /// copy that it made of the frame where the run ended. Nobody waits for local instructions, so none is woken.
+    fn commit_run<R: Wait>(
+        &self,
+        rt: &R,
+        alloc: Global,
+        program: &Program,
+        thread: u32,
+        run: FrontRun<O>,
+        end: Frame,
+    ) -> (bool, Option<Front>)
+        requires { thread < length O.start.threads }
+    {
+        let mut guard = self.desk.lock(rt);
+        match guard.commit_run(alloc, thread, run) {
+            Next::Moved => {
+                let frame = Some(end);
+                (true, Some(Front { frame, done: None }))
+            }
+            Next::Again => (false, guard.look(alloc, program, thread, false)),
+            Next::Sleep | Next::Leave => (true, None),
+        }
     }
 }

@@ -6,7 +6,7 @@ use Rattle.thread_runner.specs.Local.{is_done, local_step}
 use Rattle.thread_runner.proofs.AskedLemmas.{asks_less, members_before}
 use Rattle.thread_runner.proofs.LocalLemmas.{stood_still, walked_on, went_on}
 use Rattle.thread_runner.proofs.stretch.run_local.Goals as goal
-use Rattle.thread_runner.proofs.stretch.run_local.Goals.{else-loop-count-test, then-loop-count-test+then-count-eq-MOST}
+use Rattle.thread_runner.proofs.stretch.run_local.Goals.{else-loop-count-test, then-loop-count-test+then-count-most}
 
 pub loop-count-preserved-in-Ok-Done : goal.loop-count-preserved-in-Ok-Done
 loop-count-preserved-in-Ok-Done g c =
@@ -17,7 +17,7 @@ loop-count-preserved-in-Ok-Done g c =
           (going c.step.new.frames) kept.wide c.walk-count.ensures.steps (rw
           (c.as_slice.ensures.value, c.in-Ok-Done.field-0-is) at c.in-Ok-Done.ensures.step);
       thread = c.step.ensures.thread ∙ (c.walk-count.ensures.thread ∙ kept.thread);
-      most = omega (arith, c.walk-count.ensures.most, c.if-count-eq-MOST.false, c.loop-count-test.true, kept.most);
+      most = omega (arith, c.walk-count.ensures.most, c.if-count-most.false, c.loop-count-test.true, kept.most);
     }
 
 pub loop-count-preserved : goal.loop-count-preserved
@@ -95,7 +95,7 @@ returns-clause-wide g c =
     let kept = c.loop-count.invariant in
     elim c.loop-count-test.branch [
       | else-loop-count-test w ↦ λ more members. rw (w.frames-is, w.count-is) (kept.wide more members)
-      | then-loop-count-test+then-count-eq-MOST w ↦ λ more members. rw (w.frames-is, w.count-is)
+      | then-loop-count-test+then-count-most w ↦ λ more members. rw (w.frames-is, w.count-is)
           (walked_on c.args.program.now c.loop-count.asked.items c.loop-count.count w.walk-count.result
           (going c.args.frames.now) (going c.loop-count.frames) (going w.walk-count.new.frames)
           (going w.walk-count.new.frames) kept.wide w.walk-count.ensures.steps more members)

@@ -11,8 +11,8 @@ invariant-loop-count g l = record {
   wide : (more : List Bool) → AreMembers l.asked.items more
       → local_steps l.program more l.count (going l.fn.frames) ≡ Some (going l.frames);
   thread : l.frames.thread ≡ l.fn.frames.thread;
-  most : l.count ≤ 1023;
+  most : l.count ≤ l.most;
 }
 
 abbrev pub decreases-loop-count : goal.decreases-loop-count
-decreases-loop-count g l = 1023 - l.count + unasked l.done 0 l.asked.items
+decreases-loop-count g l = l.most - l.count + unasked l.done 0 l.asked.items

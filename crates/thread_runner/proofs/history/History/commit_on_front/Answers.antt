@@ -11,14 +11,14 @@ use Rattle.thread_runner.proofs.history.History.commit_on_front.Goals as goal
 
 pub count_steps-requires-clause-may : goal.count_steps-requires-clause-may
 count_steps-requires-clause-may g c =
-    (c.count-count.ensures.some, (c.args.stretch.from, (c.fits_front.ensures.yes c.if-not-fits_front.false).0))
+    (c.count-count.ensures.some, (c.args.run.from, (c.fits_front.ensures.yes c.if-not-fits_front.false).0))
 
 pub count_steps-requires-clause-led : goal.count_steps-requires-clause-led
 count_steps-requires-clause-led g c =
     let P = g.O.Origin.program in
     let w = world_of c.args.self.now.world in
     let t = c.args.thread in
-    let s = c.args.stretch in
+    let s = c.args.run in
     subst (λ (fs : List Frame). Run (program_of P) w (replicate c.count-count.result t) (with_top w t fs))
     (sym c.into_top.ensures.is)
     (subst (λ k. Run (program_of P) w (replicate k t) (with_top w t s.to)) (sym c.count-count.ensures.is)
@@ -27,7 +27,7 @@ count_steps-requires-clause-led g c =
 pub returns-clause-answer : goal.returns-clause-answer
 returns-clause-answer g c =
     let w = world_of c.args.self.now.world in
-    front_counts_if g.O.Origin.program c.args.self.now c.args.thread (Some c.args.stretch) c.count_steps.result
+    front_counts_if g.O.Origin.program c.args.self.now c.args.thread (Some c.args.run) c.count_steps.result
     c.count_steps.new.self (with_top w c.args.thread (frames_of c.into_top.result)) c.count-count.result
     c.count-count.ensures.is (ap (with_top w c.args.thread) c.into_top.ensures.is)
     (c.is_full.ensures.no c.if-is_full.false) (c.fits_front.ensures.yes c.if-not-fits_front.false)

@@ -1,6 +1,6 @@
 use Rattle.std.proofs.Common.{subst}
 use Rattle.thread_runner.specs.Fronts.{FrontReach, LeadsOn}
-use Rattle.thread_runner.proofs.front.FrontStretch.into_top.Goals as goal
+use Rattle.thread_runner.proofs.front.FrontRun.into_top.Goals as goal
 
 pub returns-clause-leads : goal.returns-clause-leads
 returns-clause-leads g c =

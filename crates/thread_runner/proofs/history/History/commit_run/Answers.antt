@@ -1,0 +1,37 @@
+use Rattle.std.proofs.Common.{sym, subst, replicate, List}
+use Rattle.vm_state.specs.declared.frame.Frame.{Frame}
+use Rattle.semantics.specs.Worlds.{Run}
+use Rattle.machine.specs.Linked.{program_of}
+use Rattle.init_engine.specs.Turns.{world_of}
+use Rattle.thread_runner.specs.Commits.{Grew}
+use Rattle.thread_runner.specs.Fronts.{with_top}
+use Rattle.thread_runner.proofs.FrontLemmas.{front_led}
+use Rattle.thread_runner.proofs.history.History.commit_run.Goals as goal
+
+pub take_steps-requires-clause-front : goal.take_steps-requires-clause-front
+take_steps-requires-clause-front g c =
+    (c.args.run.from, (c.fits_front.ensures.yes c.if-not-fits_front.false).0)
+
+pub take_steps-requires-clause-led : goal.take_steps-requires-clause-led
+take_steps-requires-clause-led g c =
+    let P = g.O.Origin.program in
+    let w = world_of c.args.self.now.world in
+    let t = c.args.thread in
+    let s = c.args.run in
+    subst (λ (fs : List Frame). Run (program_of P) w (replicate c.count-count.result t) (with_top w t fs))
+    (sym c.into_top.ensures.is)
+    (subst (λ k. Run (program_of P) w (replicate k t) (with_top w t s.to)) (sym c.count-count.ensures.is)
+    (front_led P w t s (c.fits_front.ensures.yes c.if-not-fits_front.false) c.into_top.ensures.leads))
+
+pub returns-in-Ok-clause-answer : goal.returns-in-Ok-clause-answer
+returns-in-Ok-clause-answer g c =
+    let old = c.args.self.now in
+    let w = world_of old.world in
+    let t = c.args.thread in
+    let new = c.take_steps.new.self in (
+      c.is_full.ensures.no c.if-is_full.false,
+      c.fits_front.ensures.yes c.if-not-fits_front.false,
+      subst (λ k. Grew old t (with_top w t c.args.run.to) k new) c.count-count.ensures.is
+          (subst (λ (fs : List Frame). Grew old t (with_top w t fs) c.count-count.result new) c.into_top.ensures.is
+          c.in-Ok.ensures.grew),
+    )
