@@ -27,10 +27,19 @@ use vm_state::value::Maker;
 const FEW: u64 = 10_000;
 
 /// The state, and the steps of the methods that ran often.
-#[derive(Drop)]
 pub(crate) struct CourseRunner {
     pub(crate) table: StepTable,
     pub(crate) shared: Shared,
+}
+
+// By hand, since a derived one is written out wherever one is let go.
+impl Drop for CourseRunner {
+    fn drop(self) {
+        let CourseRunner {
+            table: _,
+            shared: _,
+        } = self;
+    }
 }
 
 /// No static field and no object.
