@@ -87,6 +87,13 @@ def chain_of_references(count):
     return files
 
 
+def fields_above(count):
+    """One class with 60,000 instance fields, and so many classes below it."""
+    def members(pool):
+        return [member(0, pool.text("f%d" % number), pool.text("I")) for number in range(60000)], []
+    return [class_file("Top", members=members)] + [class_file("C%d" % number, "Top") for number in range(count)]
+
+
 def interface_chain(count):
     """Each interface below the one before."""
     return [interface("I%d" % number, ["I%d" % (number - 1)] if number else []) for number in range(count)]
@@ -145,6 +152,18 @@ def long_name(count):
         references(pool, 10, "Main", ["a" * 65000], count)
         return [], []
     return [class_file("Main", members=members)]
+
+
+def long_class_names(count):
+    """Fifteen classes with names of 65,000 bytes that differ at their ends alone, and one with so many references to a
+    method of the last, which an interface declares."""
+    names = ["a" * 64990 + "%05d" % number for number in range(15)]
+
+    def members(pool):
+        references(pool, 10, names[-1], ["m0"], count)
+        return [], []
+    return [*map(class_file, names), class_file("I", OBJECT, (), 0x601, declaring(0)),
+            class_file("Main", members=members)]
 
 
 def equal_strings(count):
@@ -413,6 +432,21 @@ def virtual_calls(count):
             for number in range(count)]
 
 
+def static_namesakes(count):
+    """So many classes with a static method of the name and descriptor of Enum.name, and one that calls that 21,800
+    times."""
+    named = "()Ljava/lang/String;"
+
+    def hiding(pool):
+        return [], [method(pool, 0x9, "name", named, bytes([1, 176]))]
+
+    def calling(pool):
+        code = 21800 * instruction(pool, 182, "java/lang/Enum", "name", named) + RETURN
+        return [], [method(pool, 0x1, "run", "()V", code)]
+    files = [class_file("C%05d" % number, members=hiding) for number in range(count)]
+    return [*files, class_file("Main", members=calling)]
+
+
 def number_of(value):
     """The instruction that pushes a number of 16 bits."""
     return bytes([17]) + struct.pack(">h", value)
@@ -557,13 +591,14 @@ def equal_interfaces(count):
     return [interface(name), class_file("Main", interfaces=[name] * count)]
 
 
-KINDS = {kind.__name__: kind for kind in (small, chain, chain_of_references, interface_chain, many_defaults, long_name,
-                                         equal_strings, far_references, equal_interfaces, far_fields, overloads,
-                                         below_interfaces, many_below, own_methods_below, two_chains_below, wide_below,
-                                         conflicts_below, initialized_on_top, many_on_top,
-                                         alternating, long_orders, initializers, waves, apart, one_cycle,
-                                         refused_below, stopped_below, stopped_apart, virtual_calls, deep_names,
-                                         service, indexed_service, long_initializers, wasteful)}
+KINDS = {kind.__name__: kind for kind in (small, chain, chain_of_references, fields_above, interface_chain,
+                                         many_defaults, long_name, long_class_names, equal_strings, far_references,
+                                         equal_interfaces, far_fields, overloads, below_interfaces, many_below,
+                                         own_methods_below, two_chains_below, wide_below, conflicts_below,
+                                         initialized_on_top, many_on_top, alternating, long_orders, initializers,
+                                         waves, apart, one_cycle, refused_below, stopped_below, stopped_apart,
+                                         virtual_calls, static_namesakes, deep_names, service, indexed_service,
+                                         long_initializers, wasteful)}
 
 
 def main():

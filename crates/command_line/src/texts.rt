@@ -95,9 +95,14 @@ holds against it:
                                     the call by which it is reached, and so on, up to the initializer
   app/Main DependsOn app/Table DependsOn app/Clock Unsupported
                                     it uses app/Table, which uses app/Clock, which has a reason of its own
+and of one that is initialized at build time:
+  app/Table cost 79 made 12 kept 10 bytes 640
+                                    what its initializer cost, how many objects it made, how many of them the image
+                                    keeps, and the bytes of its region
 
-Of 'all' classes it tells the same without calls and with the ends of such chains alone, and then the ten classes for
-whose sake the most others are initialized at run time: '12 depend on app/Clock'.
+Of 'all' classes it tells the same without calls, without the instruction at which the run of an initializer ended, and
+with the ends of such chains alone, and then the ten classes for whose sake the most others are initialized at run time:
+'12 depend on app/Clock'.
 
 For example: preinit explain app.Main app/Main.class app/Table.class";
 
@@ -109,7 +114,8 @@ Looks through the main methods of the entry classes, through the initializers of
 through what all of these may call, and tells each instruction there that ends its thread as Unsupported or Missing:
   Missing at app/Main.main([Ljava/lang/String;)V 5 invokevirtual java/lang/String.length()I
                                     its method, where it begins in the method's code in bytes, and what it names
-A main method that can't be called stands there without an instruction.
+A main method that can't be called stands there without an instruction. Ends by operands are not told: at the monitor of
+a string or of System.out, by an enum constant's null name, and in a call that runs no method or an abstract one.
 
 It takes each virtual call to run any method of its name and descriptor, so a run need not come to each place that is
 told. The status is 0 where there is none, and else 6.

@@ -22,6 +22,7 @@ use std::alloc::{AllocError, Global};
 use vm_state::classes::Fields;
 use vm_state::frame::{FrameList, Segment};
 use vm_state::heap::Pool;
+use vm_state::spares::Spares;
 
 /// A class's region before its initializer runs: each static field is zero, null or its ConstantValue, and no object
 /// was made (JVMS 5.5, step 6).
@@ -53,12 +54,13 @@ fn run_frames<'a>(
         given.entry.class (frames_of segment.old) (region_of store.old.own) budget halt (region_of store.new.own)) }
 {
     let mut courses = CourseRunner::new(alloc);
+    let mut spares = Spares::none(alloc);
     let mut left = budget;
     while left > 0 {
         let done = budget - left;
         let ahead = courses.run(alloc, given, &mut store.own, segment, done, left - 1)?;
         let most = left - 1 - ahead;
-        match take_step(alloc, given, store, segment, most)? {
+        match take_step(alloc, &mut spares, given, store, segment, most)? {
             Progress::On => left = most.saturating_sub(store.made),
             Progress::Over => return Ok(None),
             Progress::Stopped(halt) => return Ok(Some(halt)),

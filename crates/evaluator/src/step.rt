@@ -92,12 +92,14 @@ fn halted(stop: Stop) -> Result<Halt, AllocError>
     }
 }
 
-/// The next instruction of an initializer, which may make `most` elements.
+/// The next instruction of an initializer, which may make `most` elements. A frame that begins takes its memory of the
+/// spares, and one that ends leaves it there.
 ///
 /// # Errors
 /// `AllocError` where memory is refused.
 pub fn take_step<'a>(
     alloc: Global,
+    spares: &mut Spares,
     given: Initializer<'a>,
     store: &mut BuildStore<'a>,
     segment: &mut Segment,
@@ -107,13 +109,12 @@ pub fn take_step<'a>(
         (environment_of given.entry.regions.now) given.entry.class (frames_of segment.old) (region_of store.old.own)
         (suc most) progress (frames_of segment.new) (region_of store.new.own) (most - store.new.made)) }
 {
-    let mut spares = Spares::none(alloc);
     let frame = &mut segment.innermost;
-    let conclusion = match perform(alloc, &mut spares, given, store, frame, most) {
+    let conclusion = match perform(alloc, spares, given, store, frame, most) {
         Ok(conclusion) => conclusion,
         Err(stop) => return Ok(Progress::Stopped(halted(stop)?)),
     };
-    Ok(match conclude(&mut spares, segment, conclusion)? {
+    Ok(match conclude(spares, segment, conclusion)? {
         Left::Stands => Progress::On,
         Left::Nothing => Progress::Over,
         Left::Prints { .. } => Progress::Stopped(Halt::Barred),

@@ -1,16 +1,18 @@
 -- Rows of reaches: one more key, one more reach, and what reaches a place.
 use Rattle.std.proofs.Common.{◌≡◌, ℕ, zero, suc, ◌<◌, ◌≤◌, Bool, true, false, cond, List, [], ◌∷◌, ◌++◌, length, Option}
 use Rattle.std.proofs.Common.{Some, None, Vec, Global, slice_get, fold, ltb, leb, get_or, refl, sym, ap, ◌∙◌, arith}
+use Rattle.std.proofs.Common.{slice_set}
 use Rattle.std.proofs.lemmas.Bool.{ltb-true, lt-ltb, leb-true, leb-false, le-leb}
 use Rattle.std.proofs.lemmas.List.{get_or_default}
 use Rattle.std.proofs.lemmas.Option.{slice_get_within, slice_get_read, get_or_from_slice_get}
 use Rattle.loading.proofs.PlaceLemmas.{kept_at, last_at}
 use Rattle.hierarchy.specs.steps.MemberKeys.{same_key}
-use Rattle.hierarchy.specs.steps.Reaches.{reaches_in, row_at, reach_after, reaching, GoUp, last_nearest}
+use Rattle.hierarchy.specs.steps.Reaches.{reaches_in, row_at, reach_after, reaching, GoUp, last_nearest, noted_in}
 use Rattle.hierarchy.specs.declared.member_key.MemberKey.{MemberKey}
 use Rattle.hierarchy.specs.declared.member.DeclaredMember.{DeclaredMember}
 use Rattle.hierarchy.specs.declared.reach_table.Reach.{Reach}
-use Rattle.hierarchy.proofs.MemberKeysLemmas.{key_is}
+use Rattle.hierarchy.proofs.MemberKeysLemmas.{key_is, same_key_itself}
+use Rattle.hierarchy.proofs.RowLemmas.{set_here, set_else}
 
 length-push : {A : Type 0} (xs : List A) (y : A) → length (xs ++ y ∷ []) ≡ suc (length xs)
 length-push [] y = refl
@@ -75,6 +77,37 @@ module _ (find after : MemberKey → Option ℕ) (rows new : List (Vec Reach Glo
       by true false e f = absurd (omega (arith, at_end a e first, within b n (before b f second)))
       by false true e f = absurd (omega (arith, at_end b f second, within a n (before a e first)))
       by false false e f = apart a b n (before a e first) (before b f second)
+
+-- ---- one more reach
+
+module _ (find : MemberKey → Option ℕ) (rows : List (Vec Reach Global)) (key : MemberKey) (number : ℕ)
+    (old row : Vec Reach Global) (reach : Reach) (there : find key ≡ Some number)
+    (item : slice_get rows number ≡ Some old)
+    (apart : (a b : MemberKey) (n : ℕ) → find a ≡ Some n → find b ≡ Some n → a ≡ b)
+    (is : row.items ≡ noted_in old.items reach) where
+  pub noted_by_key : (q : MemberKey) → row_at (slice_set rows number row) (find q)
+      ≡ cond (same_key key q) (noted_in (row_at rows (find q)) reach) (row_at rows (find q))
+  noted_by_key q = by (same_key key q) refl
+    where
+      other : same_key key q ≡ false → (o : Option ℕ) → find q ≡ o
+          → row_at (slice_set rows number row) o ≡ row_at rows o
+      other e None at = refl
+      other e (Some n) at = ap reaches_in (set_else rows number n row differ)
+        where
+          differ : ¬ (number ≡ n)
+          differ same =
+              let equal : key ≡ q = apart key q n (there ∙ ap Some same) at in
+              let clash : false ≡ true = sym e ∙ ap (same_key key) (sym equal) ∙ same_key_itself key in absurd cc
+
+      by : (b : Bool) → same_key key q ≡ b → row_at (slice_set rows number row) (find q)
+          ≡ cond b (noted_in (row_at rows (find q)) reach) (row_at rows (find q))
+      by true e =
+          let found : find q ≡ Some number = ap find (sym (key_is key q e)) ∙ there in
+          let before : row_at rows (find q) ≡ old.items = ap (row_at rows) found ∙ ap reaches_in item in
+          let within : number < length rows = slice_get_within rows number old item in
+          ap (row_at (slice_set rows number row)) found ∙ ap reaches_in (set_here rows number row within) ∙ is
+          ∙ ap (λ (l : List Reach). noted_in l reach) (sym before)
+      by false e = other e (find q) refl
 
 -- ---- what reaches a place
 

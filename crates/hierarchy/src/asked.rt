@@ -9,7 +9,8 @@ use crate::member_key::MemberKey;
 use crate::member_name::MemberName;
 use crate::wanted::Wanted;
 use classfile::{ClassFile, Constant};
-use loading::names::class_name_at;
+use loading::family::Family;
+use loading::names::text_at;
 use std::alloc::{AllocError, Global};
 use std::cmp::Ordering;
 
@@ -73,6 +74,57 @@ fn by_key(a: &AskedReference, b: &AskedReference) -> Ordering {
     (a.key.name, a.key.descriptor, a.class).cmp(&(b.key.name, b.key.descriptor, b.class))
 }
 
+/// A name of a class file that was sought among the given classes.
+#[derive(Clone, Copy)]
+struct NameSought {
+    /// The class whose file it is.
+    of: u32,
+    /// The class that has this name.
+    found: Option<u32>,
+}
+
+/// Names of class files that were sought, one file after the other.
+#[derive(Drop)]
+struct NamesSought {
+    /// By index of a name: the last one that was sought.
+    last: Vec<Option<NameSought>>,
+}
+
+impl NamesSought {
+    /// None was sought yet.
+    fn none(alloc: Global) -> Self {
+        NamesSought {
+            last: Vec::new(alloc),
+        }
+    }
+
+    /// The number of the given class that the Class at an index of a class file names. Each name of a file is sought
+    /// once, however many references have it.
+    fn number_of(
+        &mut self,
+        family: &Family,
+        of: u32,
+        file: &ClassFile,
+        named: u16,
+    ) -> Result<Option<u32>, AllocError> {
+        let Some(Constant::Class { name }) = file.constant(named) else {
+            return Ok(None);
+        };
+        let place = usize::from(*name);
+        if place >= self.last.len() {
+            self.last.resize(place + 1, None)?;
+        }
+        if let Some(sought) = self.last[place] {
+            if sought.of == of {
+                return Ok(sought.found);
+            }
+        }
+        let found = family.number_of(text_at(file, *name));
+        self.last[place] = Some(NameSought { of, found });
+        Ok(found)
+    }
+}
+
 impl Hierarchy {
     /// How many references, from the first on, have together no more declarations than are looked at in one way; or
     /// those of one name and descriptor.
@@ -103,8 +155,9 @@ impl Hierarchy {
         kind: MemberKind,
     ) -> Result<Vec<AskedReference>, AllocError> {
         let mut asked = Vec::new(alloc);
+        let mut names = NamesSought::none(alloc);
         for (class, given) in self.family().classes().iter().enumerate() {
-            self.add_asked(kind, class as u32, &given.file, &mut asked)?;
+            self.add_asked(kind, class as u32, &given.file, &mut names, &mut asked)?;
         }
         asked.sort_unstable_by(|a, b| by_key(a, b));
         Ok(asked)
@@ -116,27 +169,30 @@ impl Hierarchy {
         kind: MemberKind,
         class: u32,
         file: &ClassFile,
+        names: &mut NamesSought,
         asked: &mut Vec<AskedReference>,
     ) -> Result<(), AllocError> {
         for constant in file.constants() {
             if let Some((named, name_and_type)) = kind.indices(constant) {
-                if let Some(reference) = self.asked_at(kind, class, file, named, name_and_type) {
-                    asked.push(reference)?;
+                if let Some(member) = self.asked_member(kind, class, file, name_and_type) {
+                    if let Some(class) = names.number_of(self.family(), class, file, named)? {
+                        let key = self.key(member);
+                        asked.push(AskedReference { key, class, member })?;
+                    }
                 }
             }
         }
         Ok(())
     }
 
-    /// The reference by these indices of a class file.
-    fn asked_at(
+    /// The member at an index of a class file, if an interface may declare it.
+    fn asked_member(
         &self,
         kind: MemberKind,
         class: u32,
         file: &ClassFile,
-        named: u16,
         name_and_type: u16,
-    ) -> Option<AskedReference> {
+    ) -> Option<MemberName> {
         let Some(Constant::NameAndType { name, descriptor }) = file.constant(name_and_type) else {
             return None;
         };
@@ -145,11 +201,9 @@ impl Hierarchy {
             name: *name,
             descriptor: *descriptor,
         };
-        let key = self.key(member);
-        if self.is_undeclared(kind.of_interfaces(), Some(key)) {
+        if self.is_undeclared(kind.of_interfaces(), Some(self.key(member))) {
             return None;
         }
-        let class = self.family().number_of(class_name_at(file, named))?;
-        Some(AskedReference { key, class, member })
+        Some(member)
     }
 }

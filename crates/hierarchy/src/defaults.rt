@@ -5,7 +5,7 @@ ghost use Rattle.std.specs.Prelude.{◌≡◌, ◌↔◌, ◌<◌, ◌++◌, ℕ
 ghost use Rattle.std.specs.List.{Contains};
 ghost use Rattle.hierarchy.specs.declared.defaults.FoundMethods.TheVariants as found;
 ghost use Rattle.hierarchy.specs.steps.Defaults.{AreFound, found_after, only_of, HasMethod, IsFree, AreCovered};
-ghost use Rattle.hierarchy.specs.steps.Defaults.{AreParentsOf, classes_of, Among};
+ghost use Rattle.hierarchy.specs.steps.Defaults.{AreParentsOf, AreDefaults, classes_of, Among};
 ghost use Rattle.hierarchy.specs.steps.Reaches.{class_noted};
 ghost use Rattle.loading.specs.Families.{IsAncestor, parents_in};
 ghost use Rattle.built_in.specs.Keys.{NameAndType};
@@ -14,6 +14,7 @@ ghost use Rattle.hierarchy.specs.MemberLookup.{is_abstract, IsTheDefault, HasNoD
 
 use crate::above::Above;
 use crate::class_set::ClassSet;
+use crate::few_classes::FewClasses;
 use crate::hierarchy::Hierarchy;
 use crate::member::DeclaredMember;
 use crate::member_key::MemberKey;
@@ -90,10 +91,26 @@ impl Hierarchy {
         !interfaces.is_empty() || self.given_superclass(class).is_some()
     }
 
+    /// The one default of a class, by a list of its ancestors or by marks of them. A list is looked through for each
+    /// class that was noted, so it serves where few were.
+    fn default_above(&self, class: u32, key: Option<MemberKey>) -> Option<DeclaredMember>
+        ensures { (name : NameAndType) → IsLookup self.now.texts name key
+            → MatchOption result (HasNoDefault self.now.family name class)
+            (λ x. IsTheDefault self.now.family name class x.class x.index) }
+    {
+        if self.noted(Wanted::InterfaceMethod, key).len() > 64 {
+            return self.default_marked(class, key);
+        }
+        match FewClasses::ancestors(self.family(), class) {
+            Some(few) => self.default_among(class, Above::Few(&few), key),
+            None => self.default_marked(class, key),
+        }
+    }
+
     /// The one default of a class, by marks of all its ancestors. It stands apart, as its marks take 192 KB of the
     /// stack: a caller that has them in its own frame pays for them at each call.
     #[inline(never)]
-    fn default_above(&self, class: u32, key: Option<MemberKey>) -> Option<DeclaredMember>
+    fn default_marked(&self, class: u32, key: Option<MemberKey>) -> Option<DeclaredMember>
         ensures { (name : NameAndType) → IsLookup self.now.texts name key
             → MatchOption result (HasNoDefault self.now.family name class)
             (λ x. IsTheDefault self.now.family name class x.class x.index) }
@@ -130,11 +147,18 @@ impl Hierarchy {
                     index,
                 })
             }
-            FoundMethods::Several => {
-                let covered = self.above_candidates(above, key);
-                self.defaults(above, &covered, key).only()
-            }
+            FoundMethods::Several => self.all_defaults(above, key).only(),
         }
+    }
+
+    /// The defaults among the ancestors. It stands apart, as `default_marked` does.
+    #[inline(never)]
+    fn all_defaults(&self, above: Above<'_>, key: Option<MemberKey>) -> FoundMethods
+        ensures { (name : NameAndType) → IsLookup self.now.texts name key
+            → AreDefaults self.now.family name (classes_of above.entry) result }
+    {
+        let covered = self.above_candidates(above, key);
+        self.defaults(above, &covered, key)
     }
 
     /// The ancestors that have the method.

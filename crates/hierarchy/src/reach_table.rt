@@ -1,10 +1,10 @@
 //! Rows of reaches by name and descriptor.
 
-ghost use Rattle.std.specs.Prelude.{◌≡◌, ◌↔◌, ◌++◌, ◌∷◌, [], Some, IsTrue, IfOk, OnOk, if◌then◌else◌};
+ghost use Rattle.std.specs.Prelude.{◌≡◌, ◌↔◌, [], Some, IsTrue, IfOk, OnOk, if◌then◌else◌};
 ghost use Rattle.hierarchy.specs.declared.member_key.MemberKey.{MemberKey as Key};
 ghost use Rattle.hierarchy.specs.steps.MemberKeys.{same_key};
 ghost use Rattle.hierarchy.specs.steps.Reaches.{EndsAt, GoUp, IsReachTable};
-ghost use Rattle.hierarchy.specs.steps.Reaches.{last_nearest, number_in, reaches_of, reaching};
+ghost use Rattle.hierarchy.specs.steps.Reaches.{ends_idle, last_nearest, noted_in, number_in, reaches_of, reaching};
 
 use crate::member::DeclaredMember;
 use crate::member_key::MemberKey;
@@ -75,7 +75,8 @@ impl ReachTable {
         Ok(number)
     }
 
-    /// Notes one more reach of a key.
+    /// Notes one more reach of a key. What says nothing behind nothing goes when the next one comes, so that the first
+    /// of a row names a class if any does.
     pub(crate) fn push(
         &mut self,
         alloc: Global,
@@ -85,10 +86,10 @@ impl ReachTable {
         requires { IsReachTable self.old }
         ensures table { OnOk result (IsReachTable self.new) }
         ensures rows { OnOk result ((k : Key) → reaches_of self.new k
-            ≡ (if same_key key k then reaches_of self.old k ++ reach ∷ [] else reaches_of self.old k)) }
+            ≡ (if same_key key k then noted_in (reaches_of self.old k) reach else reaches_of self.old k)) }
     {
         let number = self.number_of(alloc, key)?;
-        self.rows[number].push(reach)?;
+        push_reach(&mut self.rows[number], reach)?;
         Ok(())
     }
 
@@ -117,6 +118,25 @@ impl ReachTable {
         let count = row.partition_point(|reach| reach.from <= place);
         last_of(row, count)
     }
+}
+
+/// Notes one more reach in a row.
+fn push_reach(row: &mut Vec<Reach>, reach: Reach) -> Result<(), AllocError>
+    ensures { OnOk result (row.new.items ≡ noted_in row.old.items reach) }
+{
+    if ends_idle(row) {
+        row.pop();
+    }
+    row.push(reach)?;
+    Ok(())
+}
+
+/// Whether the last reach of a row says nothing, as what stands before it.
+fn ends_idle(row: &[Reach]) -> bool
+    ensures { result ≡ ends_idle row.now }
+{
+    let count = row.len();
+    last_of(row, count).is_none() && last_of(row, count.saturating_sub(1)).is_none()
 }
 
 /// What is the nearest from the last of the first `count` reaches on.

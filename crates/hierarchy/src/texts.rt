@@ -13,7 +13,7 @@ use loading::given::GivenClass;
 use std::alloc::{AllocError, Global};
 use std::marker::Model;
 
-/// So often texts are sought by a state that is known to all: whoever makes them meet costs little.
+/// How often texts are sought by a state that is known to all: whoever makes them meet costs little.
 const KNOWN: usize = 4_096;
 
 /// Texts in the order in which they came, each once. A text's number is its place.

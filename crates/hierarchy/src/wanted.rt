@@ -9,6 +9,7 @@ pub(crate) enum Wanted {
     Method,
     /// A method that is neither private nor static.
     InstanceMethod,
-    /// Such a method of an interface: a superinterface method as it is looked up (JVMS 5.4.3.3).
+    /// A method of an interface that is neither private nor static: a superinterface method as it is looked up
+    /// (JVMS 5.4.3.3).
     InterfaceMethod,
 }

@@ -110,18 +110,11 @@ fn returns_value(returns: ReturnKind) -> bool
     }
 }
 
-/// Whether each of these kinds of parameters has a value.
-fn take_values(kinds: &[FieldKind]) -> bool
-    ensures { result ≡ list_all has_value kinds.now }
-{
-    kinds.iter().all(|kind| has_value(*kind))
-}
-
 /// Whether all that a method takes and returns has a value: none is a float or a double.
 pub fn has_values(signature: &Signature) -> bool
     ensures { result ≡ has_values signature.now }
 {
-    take_values(signature.parameters.as_slice()) && returns_value(signature.returns)
+    signature.parameters.have_values() && returns_value(signature.returns)
 }
 
 /// A call by a signature, if there is one.

@@ -170,7 +170,7 @@ pub fn check_cast<S: Store>(
 }
 
 /// The int that stands for a boolean (JVMS 2.3.4).
-fn int_of_boolean(is: bool) -> Value
+pub fn int_of_boolean(is: bool) -> Value
     ensures { result ≡ int_of_boolean is }
 {
     if is { Value::Int(1) } else { Value::Int(0) }

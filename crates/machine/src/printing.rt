@@ -1,6 +1,6 @@
 //! Prints of `System.out`: `print` and `println` of `java.io.PrintStream`, over any store.
 
-ghost use Rattle.std.specs.Prelude.{◌≡◌, ◌∷◌, [], List, IfOk, slice_get};
+ghost use Rattle.std.specs.Prelude.{◌≡◌, ◌∷◌, [], List, IfOk, is_some, slice_get};
 ghost use Rattle.classfile.specs.Printing.{printed_units};
 ghost use Rattle.vm_state.specs.Output.{Print};
 ghost use Rattle.machine.specs.Printing.{unit_of_int, text_of_string, printed_text, ended, print_on, print_value};
@@ -74,6 +74,19 @@ fn printed_text(
     }
 }
 
+/// Whether a method prints a value: it is of the method's kind.
+fn is_printed(program: &Program, what: Printed, value: Value) -> bool
+    ensures { result ≡ is_some (printed_text program.now what value) }
+{
+    match (what, value) {
+        (Printed::Int | Printed::Char | Printed::Boolean, Value::Int(_))
+        | (Printed::Long, Value::Long(_))
+        | (Printed::String, Value::Null) => true,
+        (Printed::String, Value::Text(number)) => program.string(number).is_some(),
+        _ => false,
+    }
+}
+
 /// A text, with the end of a line or without it.
 fn ended(line: bool, text: Text) -> Result<Text, AllocError>
     ensures { IfOk result (λ t. t ≡ ended line text) }
@@ -129,17 +142,20 @@ pub fn print_value<S: Store>(
     let Ok(value) = frame.cells.top() else {
         return FAULT;
     };
-    let Some(text) = printed_text(given.alloc, given.program, what, value)? else {
-        return FAULT;
-    };
     let Ok(receiver) = second_reference(&frame.cells) else {
         return FAULT;
     };
-    let text = ended(line, text)?;
     let receiver = Receiver {
         value: receiver,
         count: 2,
     };
+    if !is_out(receiver.value) && is_printed(given.program, what, value) {
+        return call_on(given, spares, frame, store, call, receiver);
+    }
+    let Some(text) = printed_text(given.alloc, given.program, what, value)? else {
+        return FAULT;
+    };
+    let text = ended(line, text)?;
     print_on(given, spares, frame, store, call, receiver, text)
 }
 

@@ -13,8 +13,8 @@ use std::alloc::{AllocError, Global};
 use std::cmp::Ordering;
 use std::marker::Model;
 
-/// So few references are resolved in the order of their entries: what stands above a class is looked up for each anew,
-/// which costs less than a place for each entry.
+/// How many references are resolved in the order of their entries at most: what stands above a class is looked up for
+/// each anew, which costs less than a place for each entry.
 const FEW: usize = 8;
 
 /// A reference to a member: the class that it names, its name and type, and where it stands, by their indices.

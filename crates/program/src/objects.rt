@@ -1,6 +1,6 @@
 //! Objects of the classes of a program, as they are made (JVMS 6.5, new).
 
-ghost use Rattle.std.specs.Prelude.{◌≡◌, ◌++◌, ℕ, [], true, map, reverse, Some, IfOk, OnOk, slice_get};
+ghost use Rattle.std.specs.Prelude.{◌≡◌, ◌++◌, ℕ, [], true, map, reverse, Some, IfOk, IfSome, OnOk, slice_get};
 ghost use Rattle.classfile.specs.ClassFile.{ClassFile as File};
 ghost use Rattle.classfile.specs.declared.member.Member.{Member as Declared};
 ghost use Rattle.loading.specs.declared.given.Superclass.TheVariants as super;
@@ -47,22 +47,43 @@ impl Program {
     }
 }
 
-/// What new objects of each class hold.
+/// The most slots of a class whose new objects are copied. All that are kept are so no more than some for each class,
+/// also where a stranger's class with 65,000 fields has as many classes below it.
+const FEW_SLOTS: u32 = 64;
+
+/// What new objects of each class hold, where they have few slots.
 pub(crate) fn zeros_of_all(
     alloc: Global,
     family: &Family,
     tables: &SlotTable,
-) -> Result<Vec<Slots>, AllocError>
+) -> Result<Vec<Option<Slots>>, AllocError>
     requires { AreSlots family.now tables.now }
     ensures { IfOk result (λ zeros. AreZeros family.now zeros.items) }
 {
     let count = family.classes().len();
     let mut zeros = Vec::with_capacity(alloc, count)?;
     for class in 0..count as u32 {
-        let slots = zeros_of(alloc, family, tables, class)?;
+        let slots = few_zeros_of(alloc, family, tables, class)?;
         zeros.push(slots)?;
     }
     Ok(zeros)
+}
+
+/// What a new object of a class holds, if it has few slots.
+fn few_zeros_of(
+    alloc: Global,
+    family: &Family,
+    tables: &SlotTable,
+    class: u32,
+) -> Result<Option<Slots>, AllocError>
+    requires { AreSlots family.now tables.now }
+    ensures { IfOk result (λ kept. IfSome kept (λ slots. slots ≡ map zero_of (slots_of family.now class))) }
+{
+    if tables.chain(class).count > FEW_SLOTS {
+        return Ok(None);
+    }
+    let slots = zeros_of(alloc, family, tables, class)?;
+    Ok(Some(slots))
 }
 
 /// What a new object of a class holds: zero or null in each slot.

@@ -1,14 +1,16 @@
 //! What methods take and return (JVMS 4.3.3).
 
 ghost use Rattle.std.specs.Prelude.{◌≡◌, ◌==◌, ◌<◌, ◌≤◌, ℕ, List, not, length, drop, IfOk, option_copied, position};
+ghost use Rattle.std.specs.List.{list_all};
 ghost use Rattle.classfile.specs.Grammar.{IsMethodDescriptor};
+ghost use Rattle.program.specs.Fields.{has_value};
 ghost use Rattle.program.specs.Signatures.{return_kind, signature_in, signature_of, IsSignatureOf, AreSignatures};
 ghost use Rattle.program.specs.steps.ParsedSignatures.{dimensions, name_length, element_length, type_length};
 ghost use Rattle.program.specs.steps.ParsedSignatures.{ends_parameters, AreParameters, IsParsed, IsEntry};
 
 use crate::runtime_constant::FieldKind;
 use crate::sparse::Sparse;
-use crate::statics::field_kind;
+use crate::statics::{field_kind, has_value};
 use classfile::{ClassFile, Constant, is_method_descriptor};
 use std::alloc::{AllocError, Global};
 use std::marker::Model;
@@ -17,24 +19,52 @@ use std::marker::Model;
 #[derive(Drop)]
 pub struct ParameterKinds {
     pub(crate) kinds: Vec<FieldKind>,
+    /// Whether each has a value. It is asked of each call, and a stranger's method has 65,000 parameters.
+    have_values: bool,
 }
 
 impl Model for ParameterKinds {
-    ghost use Rattle.std.specs.Prelude.{List};
+    ghost use Rattle.std.specs.Prelude.{List, ◌≡◌};
+    ghost use Rattle.std.specs.List.{list_all};
     ghost use Rattle.program.specs.declared.runtime_constant.FieldKind.{FieldKind as Held};
+    ghost use Rattle.program.specs.Fields.{has_value};
 
     ghost Value = { List Held };
 
     ghost view = { λ s. s.kinds.items };
+
+    ghost invariant = { λ s. s.have_values ≡ list_all has_value s.kinds.items };
 }
 
 impl ParameterKinds {
+    /// These kinds.
+    fn of_kinds(kinds: Vec<FieldKind>) -> ParameterKinds
+        ensures { result ≡ kinds.items }
+    {
+        let have_values = all_have_values(kinds.as_slice());
+        ParameterKinds { kinds, have_values }
+    }
+
     /// The kinds as a slice.
     pub fn as_slice(&self) -> &[FieldKind]
         ensures { result.now ≡ self.now }
     {
         self.kinds.as_slice()
     }
+
+    /// Whether each has a value: none is a float or a double.
+    pub fn have_values(&self) -> bool
+        ensures { result ≡ list_all has_value self.now }
+    {
+        self.have_values
+    }
+}
+
+/// Whether each of these kinds has a value.
+fn all_have_values(kinds: &[FieldKind]) -> bool
+    ensures { result ≡ list_all has_value kinds.now }
+{
+    kinds.iter().all(|kind| has_value(*kind))
 }
 
 /// What a method returns.
@@ -139,7 +169,7 @@ fn parameters_of(alloc: Global, text: &[u8]) -> Result<(ParameterKinds, &[u8]), 
         kinds.push(field_kind(parameter))?;
         rest = after;
     }
-    Ok((ParameterKinds { kinds }, rest))
+    Ok((ParameterKinds::of_kinds(kinds), rest))
 }
 
 /// What a return descriptor says (JVMS 4.3.3).

@@ -1,7 +1,7 @@
 //! The slots of objects, in which they hold the values of their fields (JVMS 2.7).
 
-ghost use Rattle.std.specs.Prelude.{◌≡◌, ◌<◌, ◌≤◌, ◌^◌, ℕ, [], length, Some, IfOk, slice_get, slice_index_or};
-ghost use Rattle.std.specs.Prelude.{if◌then◌else◌, option_copied};
+ghost use Rattle.std.specs.Prelude.{◌≡◌, ◌<◌, ◌≤◌, ◌^◌, ℕ, [], length, Some, IfOk, IfSome, slice_get};
+ghost use Rattle.std.specs.Prelude.{if◌then◌else◌, slice_index_or};
 ghost use Rattle.loading.specs.declared.given.Superclass.TheVariants as super;
 ghost use Rattle.loading.specs.Families.{superclass_in};
 ghost use Rattle.program.specs.InstanceFields.{added_slots, slots_of, slots_before, built_in_kinds, is_enum};
@@ -38,8 +38,8 @@ pub(crate) struct SlotTable {
     /// By class: those that it adds to those of its given superclass.
     added: Vec<FieldKinds>,
     chains: Vec<SlotChain>,
-    /// By class: what its objects hold as they are made.
-    zeros: Vec<Slots>,
+    /// By class, where its objects have few slots: what they hold as they are made.
+    zeros: Vec<Option<Slots>>,
 }
 
 impl Model for SlotTable {
@@ -77,7 +77,7 @@ impl SlotTable {
     }
 
     /// With what objects of the classes hold as they are made.
-    fn with_zeros(self, zeros: Vec<Slots>) -> SlotTable
+    fn with_zeros(self, zeros: Vec<Option<Slots>>) -> SlotTable
         ensures { result ≡ record self { zeros = zeros.items } }
     {
         let SlotTable {
@@ -92,12 +92,15 @@ impl SlotTable {
         }
     }
 
-    /// What objects of a class hold as they are made, if that is known.
+    /// What objects of a class hold as they are made, if that is kept.
     #[inline(always)]
     pub(crate) fn zeros(&self, class: u32) -> Option<&Slots>
-        ensures { option_copied result ≡ slice_get self.now.zeros class }
+        ensures { IfSome result (λ slots. slice_get self.now.zeros class ≡ Some (Some slots.now)) }
     {
-        self.zeros.get(class as usize)
+        match self.zeros.get(class as usize) {
+            Some(Some(slots)) => Some(slots),
+            _ => None,
+        }
     }
 
     /// The slots that a class adds to those of its given superclass.

@@ -31,7 +31,7 @@ const STRETCH_KINDS: [StretchKind; 2] = [StretchKind::Frames, StretchKind::Front
 
 /// Which stretches a thread commits.
 #[derive(Clone, Copy)]
-enum Plan {
+enum CommitPlan {
     /// Up to its end, over the classes that are initialized.
     Known,
     /// Up to its end, over none.
@@ -46,7 +46,7 @@ enum Plan {
 
 /// A thread: its classes in their text form, its entry, and which classes are initialized, also in another start.
 #[derive(Clone, Copy)]
-struct Case<'a> {
+struct OneThread<'a> {
     text: &'a str,
     entry: &'a str,
     initialized: &'a [&'a str],
@@ -55,7 +55,7 @@ struct Case<'a> {
 
 /// A stretch that was made so.
 #[derive(Drop)]
-enum Made<O: Origin> {
+enum MadeStretch<O: Origin> {
     Frames(Stretch<O>),
     Front(Option<FrontStretch<O>>),
 }
@@ -67,7 +67,7 @@ fn make<O: Origin>(
     book: &Book<O>,
     kind: StretchKind,
     done: &DoneSet,
-) -> Result<Made<O>, AllocError>
+) -> Result<MadeStretch<O>, AllocError>
     requires program { program.now ≡ O.program }
     requires thread { 0 < length book.now.past.world.threads }
 {
@@ -82,12 +82,12 @@ fn make_frames<O: Origin>(
     program: &Program,
     book: &Book<O>,
     done: &DoneSet,
-) -> Result<Made<O>, AllocError>
+) -> Result<MadeStretch<O>, AllocError>
     requires program { program.now ≡ O.program }
     requires thread { 0 < length book.now.past.world.threads }
 {
     let frames = book.frames(alloc, 0)?;
-    Ok(Made::Frames(stretch::<O>(alloc, program, frames, done)?))
+    Ok(MadeStretch::Frames(stretch::<O>(alloc, program, frames, done)?))
 }
 
 fn make_front<O: Origin>(
@@ -95,13 +95,13 @@ fn make_front<O: Origin>(
     program: &Program,
     book: &Book<O>,
     done: &DoneSet,
-) -> Result<Made<O>, AllocError>
+) -> Result<MadeStretch<O>, AllocError>
     requires program { program.now ≡ O.program }
     requires thread { 0 < length book.now.past.world.threads }
 {
     match book.front(alloc, 0)? {
-        Some(frame) => Ok(Made::Front(front_stretch::<O>(alloc, program, 0, frame, done)?)),
-        None => Ok(Made::Front(None)),
+        Some(frame) => Ok(MadeStretch::Front(front_stretch::<O>(alloc, program, 0, frame, done)?)),
+        None => Ok(MadeStretch::Front(None)),
     }
 }
 
@@ -110,15 +110,15 @@ fn commit<O: Origin>(
     alloc: Global,
     program: &Program,
     book: &mut Book<O>,
-    made: Made<O>,
+    made: MadeStretch<O>,
 ) -> Result<Commit, AllocError>
     requires program { program.now ≡ O.program }
     requires thread { 0 < length book.old.past.world.threads }
     ensures { length book.new.past.world.threads ≡ length book.old.past.world.threads }
 {
     match made {
-        Made::Frames(stretch) => book.commit(alloc, program, 0, stretch),
-        Made::Front(stretch) => book.commit_front(alloc, program, 0, stretch),
+        MadeStretch::Frames(stretch) => book.commit(alloc, program, 0, stretch),
+        MadeStretch::Front(stretch) => book.commit_front(alloc, program, 0, stretch),
     }
 }
 
@@ -136,7 +136,7 @@ fn add_commit<O: Origin>(
     alloc: Global,
     program: &Program,
     book: &mut Book<O>,
-    made: Made<O>,
+    made: MadeStretch<O>,
     answers: &mut String,
 ) -> Result<bool, AllocError>
     requires program { program.now ≡ O.program }
@@ -229,21 +229,21 @@ fn commit_plan<O: Origin>(
     program: &Program,
     book: &mut Book<O>,
     kind: StretchKind,
-    plan: Plan,
+    plan: CommitPlan,
     others: &DoneSet,
     answers: &mut String,
 ) -> Result<(), AllocError>
     requires { program.now ≡ O.program }
 {
-    if matches!(plan, Plan::LaterTwice | Plan::Others) {
+    if matches!(plan, CommitPlan::LaterTwice | CommitPlan::Others) {
         commit_next(alloc, program, book, kind, &DoneSet::none(), answers)?;
     }
     match plan {
-        Plan::Known => commit_all(alloc, program, book, kind, true, answers),
-        Plan::Unknown => commit_all(alloc, program, book, kind, false, answers),
-        Plan::Twice => commit_both(alloc, program, book, kind, answers),
-        Plan::LaterTwice => commit_both(alloc, program, book, kind, answers),
-        Plan::Others => {
+        CommitPlan::Known => commit_all(alloc, program, book, kind, true, answers),
+        CommitPlan::Unknown => commit_all(alloc, program, book, kind, false, answers),
+        CommitPlan::Twice => commit_both(alloc, program, book, kind, answers),
+        CommitPlan::LaterTwice => commit_both(alloc, program, book, kind, answers),
+        CommitPlan::Others => {
             commit_next(alloc, program, book, kind, others, answers)?;
             Ok(())
         }
@@ -267,7 +267,7 @@ fn answers_in<O: Origin>(
     program: &Program,
     world: World,
     kind: StretchKind,
-    plan: Plan,
+    plan: CommitPlan,
     others: &DoneSet,
 ) -> Result<String, AllocError>
     requires program { program.now ≡ O.program }
@@ -289,7 +289,11 @@ fn done_in<O: Origin>(alloc: Global, program: &Program, world: World) -> Result<
 }
 
 /// Those that are initialized in the other start.
-fn others_of(alloc: Global, program: &Program, case: &Case<'_>) -> Result<DoneSet, AllocError> {
+fn others_of(
+    alloc: Global,
+    program: &Program,
+    case: &OneThread<'_>,
+) -> Result<DoneSet, AllocError> {
     match start_with(alloc, program, &[case.entry], case.others)? {
         Some(world) => done_in::<Brand>(alloc, program, world),
         None => Ok(DoneSet::none()),
@@ -299,9 +303,9 @@ fn others_of(alloc: Global, program: &Program, case: &Case<'_>) -> Result<DoneSe
 fn answers_over(
     alloc: Global,
     program: &Program,
-    case: &Case<'_>,
+    case: &OneThread<'_>,
     kind: StretchKind,
-    plan: Plan,
+    plan: CommitPlan,
 ) -> Result<String, AllocError> {
     let others = others_of(alloc, program, case)?;
     match start_with(alloc, program, &[case.entry], case.initialized)? {
@@ -312,9 +316,9 @@ fn answers_over(
 
 fn answers_of(
     alloc: Global,
-    case: &Case<'_>,
+    case: &OneThread<'_>,
     kind: StretchKind,
-    plan: Plan,
+    plan: CommitPlan,
 ) -> Result<String, AllocError> {
     match program_of(alloc, &[case.text])? {
         Some(program) => answers_over(alloc, &program, case, kind, plan),
@@ -325,9 +329,9 @@ fn answers_of(
 /// The commits of a plan answer this.
 fn answer<R: AllocGlobal + Abort>(
     rt: &R,
-    case: &Case<'_>,
+    case: &OneThread<'_>,
     kind: StretchKind,
-    plan: Plan,
+    plan: CommitPlan,
     wanted: &str,
 ) -> Result<(), Fail> {
     let answers = answers_of(rt.alloc(), case, kind, plan)?;
@@ -337,8 +341,8 @@ fn answer<R: AllocGlobal + Abort>(
 
 fn both_answer<R: AllocGlobal + Abort>(
     rt: &R,
-    case: &Case<'_>,
-    plan: Plan,
+    case: &OneThread<'_>,
+    plan: CommitPlan,
     wanted: &str,
 ) -> Result<(), Fail> {
     for kind in STRETCH_KINDS.iter() {
@@ -347,14 +351,14 @@ fn both_answer<R: AllocGlobal + Abort>(
     Ok(())
 }
 
-const SPINNING: Case<'_> = Case {
+const SPINNING: OneThread<'_> = OneThread {
     text: SPIN,
     entry: "Spin",
     initialized: &["Spin"],
     others: &[],
 };
 
-const CALLING: Case<'_> = Case {
+const CALLING: OneThread<'_> = OneThread {
     text: SQ,
     entry: "Main21",
     initialized: &["Sq", "Main21"],
@@ -364,44 +368,62 @@ const CALLING: Case<'_> = Case {
 #[test]
 fn a_loop_is_committed_by_stretches(rt: HostRuntime) -> Result<(), Fail> {
     let wanted = "moved 1024, moved 1024, moved 956, ended 0, 0 3004\n";
-    both_answer(&rt, &SPINNING, Plan::Known, wanted)
+    both_answer(&rt, &SPINNING, CommitPlan::Known, wanted)
 }
 
 #[test]
 fn a_call_is_local_where_its_class_is_known(rt: HostRuntime) -> Result<(), Fail> {
-    both_answer(&rt, &CALLING, Plan::Known, "moved 9, ended 0, 0 9\n")
+    both_answer(&rt, &CALLING, CommitPlan::Known, "moved 9, ended 0, 0 9\n")
 }
 
 /// A stretch on all frames goes on below the callee, and one on the innermost frame ends with it.
 #[test]
 fn a_call_is_committed_where_its_class_is_not_known(rt: HostRuntime) -> Result<(), Fail> {
     let frames = "moved 1, moved 2, moved 6, ended 0, 0 9\n";
-    answer(&rt, &CALLING, StretchKind::Frames, Plan::Unknown, frames)?;
+    answer(
+        &rt,
+        &CALLING,
+        StretchKind::Frames,
+        CommitPlan::Unknown,
+        frames,
+    )?;
     let front = "moved 1, moved 2, moved 4, moved 2, ended 0, 0 9\n";
-    answer(&rt, &CALLING, StretchKind::Front, Plan::Unknown, front)
+    answer(
+        &rt,
+        &CALLING,
+        StretchKind::Front,
+        CommitPlan::Unknown,
+        front,
+    )
 }
 
 /// Of two stretches from one place of a thread the first counts, and the other does not.
 #[test]
 fn frames_that_were_taken_twice_count_once(rt: HostRuntime) -> Result<(), Fail> {
-    let printing = Case {
+    let printing = OneThread {
         text: M,
         entry: "M",
         initialized: &["M"],
         others: &[],
     };
     let wanted = "moved 1, stale 0, 0 1\n";
-    answer(&rt, &printing, StretchKind::Frames, Plan::Twice, wanted)?;
+    answer(
+        &rt,
+        &printing,
+        StretchKind::Frames,
+        CommitPlan::Twice,
+        wanted,
+    )?;
     let wanted = "moved 1, moved 1024, stale 0, 0 1025\n";
-    both_answer(&rt, &SPINNING, Plan::LaterTwice, wanted)
+    both_answer(&rt, &SPINNING, CommitPlan::LaterTwice, wanted)
 }
 
 #[test]
 fn a_stretch_over_another_start_is_stale(rt: HostRuntime) -> Result<(), Fail> {
-    let case = Case {
+    let case = OneThread {
         initialized: &["Main21"],
         others: &["Sq", "Main21"],
         ..CALLING
     };
-    both_answer(&rt, &case, Plan::Others, "moved 1, stale 0, 0 1\n")
+    both_answer(&rt, &case, CommitPlan::Others, "moved 1, stale 0, 0 1\n")
 }

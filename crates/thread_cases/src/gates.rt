@@ -4,7 +4,7 @@ ghost use Rattle.std.specs.Prelude.{Some};
 
 use crate::programs::{CIRCLE, M, Q_AND_T, SPIN, Tape, program_of};
 use crate::runs::ONE;
-use crate::shown::{Run, Shown, answered, ends, perform, start};
+use crate::shown::{RunShown, ThreadRun, answered, ends, perform, start};
 use init_engine::World;
 use program::Program;
 use std::alloc::AllocError;
@@ -69,7 +69,7 @@ fn get_through<R: Threads + Wait + Abort + AllocGlobal + Sync, G: Gate>(
     entries: &[&str],
     gate: &G,
 ) -> Result<(), Fail> {
-    let run = Run {
+    let run = ThreadRun {
         classes: &[Q_AND_T],
         entries,
         ..ONE
@@ -232,7 +232,7 @@ impl<'a, R: Clock> Cross<'a, R> {
 }
 
 /// Two threads of which one prints, where their classes are initialized.
-const CROSSING: Run<'_> = Run {
+const CROSSING: ThreadRun<'_> = ThreadRun {
     classes: &[SPIN, M],
     entries: &["Spin", "M"],
     initialized: &["Spin", "M"],
@@ -245,7 +245,7 @@ fn perform_crossing<R: Threads + Wait + Clock + AllocGlobal + Sync>(
     rt: &R,
     program: &Program,
     cross: &Cross<'_, R>,
-) -> Result<Option<Shown>, AllocError> {
+) -> Result<Option<RunShown>, AllocError> {
     match start(rt.alloc(), program, &CROSSING)? {
         Some(world) => Ok(Some(perform_crossing_from(rt, program, world, cross)?)),
         None => Ok(None),
@@ -257,7 +257,7 @@ fn perform_crossing_from<R: Threads + Wait + Clock + AllocGlobal + Sync>(
     program: &Program,
     world: World,
     cross: &Cross<'_, R>,
-) -> Result<Shown, AllocError> {
+) -> Result<RunShown, AllocError> {
     let tape = Tape::new(rt.alloc(), CROSSING.room);
     let slow = SlowTape { tape, cross };
     let (answer, slow) = run_threads(rt, rt.alloc(), program, world, cross, slow, CROSSING.limit);
@@ -294,13 +294,13 @@ impl<'a, R: Clock + Sync> Gate for Both<'a, R> {
 }
 
 /// Two threads that wait for one another, lazily or where their entries are initialized.
-const WAITING: Run<'_> = Run {
+const WAITING: ThreadRun<'_> = ThreadRun {
     classes: &[CIRCLE],
     entries: &["Pa", "Pb"],
     ..ONE
 };
 
-const WAITING_INITIALIZED: Run<'_> = Run {
+const WAITING_INITIALIZED: ThreadRun<'_> = ThreadRun {
     initialized: &["Pa", "Pb"],
     ..WAITING
 };
@@ -308,7 +308,7 @@ const WAITING_INITIALIZED: Run<'_> = Run {
 /// Two threads that meet before their stretches of a number get stuck.
 fn get_stuck<R: Threads + Wait + Abort + Clock + AllocGlobal + Sync>(
     rt: &R,
-    run: &Run<'_>,
+    run: &ThreadRun<'_>,
     job: u64,
 ) -> Result<(), Fail> {
     let gate = Both {

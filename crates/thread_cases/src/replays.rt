@@ -3,7 +3,7 @@
 use crate::gates::Meet;
 use crate::programs::{Q_AND_T, program_of};
 use crate::runs::ONE;
-use crate::shown::{Run, perform, start};
+use crate::shown::{ThreadRun, perform, start};
 use init_engine::{Seen, World};
 use journal::{Journal, JournalFault};
 use program::Program;
@@ -26,7 +26,11 @@ pub struct Replayed {
 }
 
 /// What the replay of a text comes to, from the start of a run.
-pub fn replay_text(alloc: Global, run: &Run<'_>, text: &[u8]) -> Result<Replayed, AllocError> {
+pub fn replay_text(
+    alloc: Global,
+    run: &ThreadRun<'_>,
+    text: &[u8],
+) -> Result<Replayed, AllocError> {
     match Journal::parse(alloc, text) {
         Ok(journal) => replay_by(alloc, run, &journal),
         Err(JournalFault::Text(line)) => Ok(nothing(alloc, "no journal", line)),
@@ -43,7 +47,11 @@ fn nothing(alloc: Global, end: &'static str, line: usize) -> Replayed {
     }
 }
 
-fn replay_by(alloc: Global, run: &Run<'_>, journal: &Journal) -> Result<Replayed, AllocError> {
+fn replay_by(
+    alloc: Global,
+    run: &ThreadRun<'_>,
+    journal: &Journal,
+) -> Result<Replayed, AllocError> {
     match program_of(alloc, run.classes)? {
         Some(program) => replay_over(alloc, &program, run, journal),
         None => Ok(nothing(alloc, "no program", 0)),
@@ -53,7 +61,7 @@ fn replay_by(alloc: Global, run: &Run<'_>, journal: &Journal) -> Result<Replayed
 fn replay_over(
     alloc: Global,
     program: &Program,
-    run: &Run<'_>,
+    run: &ThreadRun<'_>,
     journal: &Journal,
 ) -> Result<Replayed, AllocError> {
     match start(alloc, program, run)? {
@@ -86,7 +94,7 @@ fn printed_in(alloc: Global, seen: &Seen) -> Result<Replayed, AllocError> {
 
 #[test]
 fn a_run_is_replayed_from_its_journal(rt: HostRuntime) -> Result<(), Fail> {
-    let run = Run {
+    let run = ThreadRun {
         classes: &[Q_AND_T],
         entries: &["T", "T", "T"],
         ..ONE

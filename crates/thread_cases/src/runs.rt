@@ -2,7 +2,7 @@
 
 use crate::programs::{EVER, LATE, M, RAISING, SPIN, TELL};
 use crate::replays::replay_text;
-use crate::shown::{Run, ends, has_journal, perform};
+use crate::shown::{ThreadRun, ends, has_journal, perform};
 use std::process::Abort;
 use std::sync::Wait;
 use std::test::*;
@@ -10,7 +10,7 @@ use std::thread::Threads;
 use thread_runner::{Gate, Open};
 
 /// A run of one thread, which prints 7.
-pub const ONE: Run<'_> = Run {
+pub const ONE: ThreadRun<'_> = ThreadRun {
     classes: &[M],
     entries: &["M"],
     initialized: &[],
@@ -28,7 +28,7 @@ fn one_thread_prints(rt: HostRuntime) -> Result<(), Fail> {
 
 #[test]
 fn local_instructions_are_counted(rt: HostRuntime) -> Result<(), Fail> {
-    let run = Run {
+    let run = ThreadRun {
         classes: &[SPIN],
         entries: &["Spin"],
         ..ONE
@@ -52,7 +52,7 @@ impl Gate for Asked {
 }
 
 /// A run of one thread that never ends, up to a limit.
-const LIMITED: Run<'_> = Run {
+const LIMITED: ThreadRun<'_> = ThreadRun {
     classes: &[EVER],
     entries: &["Ever"],
     initialized: &["Ever"],
@@ -78,7 +78,7 @@ fn a_limit_ends_a_run_of_one_thread(rt: HostRuntime) -> Result<(), Fail> {
 
 #[test]
 fn the_last_thread_goes_on_alone(rt: HostRuntime) -> Result<(), Fail> {
-    let run = Run {
+    let run = ThreadRun {
         classes: &[LATE, SPIN, M],
         entries: &["M", "Late", "Spin"],
         room: 1_000,
@@ -98,7 +98,7 @@ const EVER_LIMIT: u64 = 100_000_000;
 
 #[test]
 fn a_limit_ends_the_last_thread(rt: HostRuntime) -> Result<(), Fail> {
-    let run = Run {
+    let run = ThreadRun {
         classes: &[EVER, M],
         entries: &["Ever", "M"],
         limit: EVER_LIMIT,
@@ -113,7 +113,7 @@ fn a_limit_ends_the_last_thread(rt: HostRuntime) -> Result<(), Fail> {
 
 #[test]
 fn what_the_last_thread_prints_goes_out_while_it_runs(rt: HostRuntime) -> Result<(), Fail> {
-    let run = Run {
+    let run = ThreadRun {
         classes: &[TELL, M],
         entries: &["M", "Tell"],
         initialized: &[],
@@ -129,7 +129,7 @@ fn what_the_last_thread_prints_goes_out_while_it_runs(rt: HostRuntime) -> Result
 
 #[test]
 fn threads_of_two_classes_end(rt: HostRuntime) -> Result<(), Fail> {
-    let run = Run {
+    let run = ThreadRun {
         classes: &[SPIN, M],
         entries: &["M", "Spin", "M"],
         ..ONE
@@ -143,12 +143,12 @@ fn threads_of_two_classes_end(rt: HostRuntime) -> Result<(), Fail> {
 /// A run into sinks that fail before this text is out gets its beginning out.
 fn fails_before<R: Threads + Wait + Abort + AllocGlobal + Sync, G: Gate>(
     rt: &R,
-    run: Run<'_>,
+    run: ThreadRun<'_>,
     gate: &G,
     text: &str,
 ) -> Result<(), Fail> {
     for room in 0..text.len() {
-        let shown = perform(rt, &Run { room, ..run }, gate)?;
+        let shown = perform(rt, &ThreadRun { room, ..run }, gate)?;
         ends(rt, &shown, "device", text.get(..room).unwrap_or(""));
         assert_eq!(rt; shown.sent, room as u128);
     }
@@ -157,7 +157,7 @@ fn fails_before<R: Threads + Wait + Abort + AllocGlobal + Sync, G: Gate>(
 
 #[test]
 fn a_sink_that_fails_ends_a_run(rt: HostRuntime) -> Result<(), Fail> {
-    let run = Run {
+    let run = ThreadRun {
         entries: &["M", "M", "M"],
         ..ONE
     };
@@ -166,7 +166,7 @@ fn a_sink_that_fails_ends_a_run(rt: HostRuntime) -> Result<(), Fail> {
 
 #[test]
 fn a_raising_initializer_prints_into_sinks_that_fail(rt: HostRuntime) -> Result<(), Fail> {
-    let run = Run {
+    let run = ThreadRun {
         classes: &[RAISING],
         entries: &["Main8"],
         initialized: &["Main8"],

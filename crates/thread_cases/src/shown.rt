@@ -15,7 +15,7 @@ const MOST_STEPS: u64 = 1_000_000_000_000;
 
 /// A run of threads.
 #[derive(Clone, Copy)]
-pub struct Run<'a> {
+pub struct ThreadRun<'a> {
     /// Its classes, in their text form.
     pub classes: &'a [&'a str],
     pub entries: &'a [&'a str],
@@ -29,7 +29,7 @@ pub struct Run<'a> {
 
 /// What a run of threads shows.
 #[derive(Drop)]
-pub struct Shown {
+pub struct RunShown {
     /// `ended`, `limit` or `stuck`; `device` where its sink failed; or why there is no run.
     pub end: &'static str,
     /// How many bytes went out before the sink failed.
@@ -51,9 +51,9 @@ pub struct Shown {
 /// What a run shows at a gate.
 pub fn perform<R: Threads + Wait + AllocGlobal + Sync, G: Gate>(
     rt: &R,
-    run: &Run<'_>,
+    run: &ThreadRun<'_>,
     gate: &G,
-) -> Result<Shown, AllocError> {
+) -> Result<RunShown, AllocError> {
     let alloc = rt.alloc();
     match program_of(alloc, run.classes)? {
         Some(program) => perform_over(rt, &program, run, gate),
@@ -64,9 +64,9 @@ pub fn perform<R: Threads + Wait + AllocGlobal + Sync, G: Gate>(
 fn perform_over<R: Threads + Wait + AllocGlobal + Sync, G: Gate>(
     rt: &R,
     program: &Program,
-    run: &Run<'_>,
+    run: &ThreadRun<'_>,
     gate: &G,
-) -> Result<Shown, AllocError> {
+) -> Result<RunShown, AllocError> {
     let alloc = rt.alloc();
     match start(alloc, program, run)? {
         Some(world) => perform_from(rt, program, world, run, gate),
@@ -75,7 +75,11 @@ fn perform_over<R: Threads + Wait + AllocGlobal + Sync, G: Gate>(
 }
 
 /// The start of a run.
-pub fn start(alloc: Global, program: &Program, run: &Run<'_>) -> Result<Option<World>, AllocError> {
+pub fn start(
+    alloc: Global,
+    program: &Program,
+    run: &ThreadRun<'_>,
+) -> Result<Option<World>, AllocError> {
     if run.initialized.is_empty() {
         start_of(alloc, program, run.entries)
     } else {
@@ -87,9 +91,9 @@ fn perform_from<R: Threads + Wait + AllocGlobal + Sync, G: Gate>(
     rt: &R,
     program: &Program,
     world: World,
-    run: &Run<'_>,
+    run: &ThreadRun<'_>,
     gate: &G,
-) -> Result<Shown, AllocError> {
+) -> Result<RunShown, AllocError> {
     let alloc = rt.alloc();
     let limit = run.limit.min(MOST_STEPS);
     let tape = Tape::new(alloc, run.room);
@@ -102,7 +106,7 @@ pub fn answered(
     alloc: Global,
     answer: Result<Ended, RunFault>,
     got: Vec<u8>,
-) -> Result<Shown, AllocError> {
+) -> Result<RunShown, AllocError> {
     match answer {
         Ok(ended) => of_ended(alloc, "ended", &ended, got),
         Err(RunFault::Limit(ended)) => of_ended(alloc, "limit", &ended, got),
@@ -114,8 +118,8 @@ pub fn answered(
 }
 
 /// Where no journal is known.
-fn nothing(alloc: Global, end: &'static str, sent: u128, got: Vec<u8>) -> Shown {
-    Shown {
+fn nothing(alloc: Global, end: &'static str, sent: u128, got: Vec<u8>) -> RunShown {
+    RunShown {
         end,
         sent,
         journal: Vec::new(alloc),
@@ -132,10 +136,10 @@ fn of_ended(
     end: &'static str,
     ended: &Ended,
     got: Vec<u8>,
-) -> Result<Shown, AllocError> {
+) -> Result<RunShown, AllocError> {
     let journal = ended.journal.text(alloc)?;
     let is_told = ended.seen.printed.text_from(0) == got.as_slice();
-    Ok(Shown {
+    Ok(RunShown {
         end,
         sent: 0,
         journal,
@@ -167,12 +171,12 @@ fn going_in(endings: &[Ending]) -> usize {
 }
 
 /// A run came to its end so, and its sink got this.
-pub fn ends<R: Abort>(rt: &R, shown: &Shown, end: &str, got: &str) {
+pub fn ends<R: Abort>(rt: &R, shown: &RunShown, end: &str, got: &str) {
     assert_eq!(rt; shown.end, end);
     assert_eq!(rt; shown.got.as_slice(), got.as_bytes());
 }
 
 /// A run has this journal.
-pub fn has_journal<R: Abort>(rt: &R, shown: &Shown, journal: &str) {
+pub fn has_journal<R: Abort>(rt: &R, shown: &RunShown, journal: &str) {
     assert_eq!(rt; shown.journal.as_slice(), journal.as_bytes());
 }

@@ -231,6 +231,11 @@ impl Cells {
         self.locals as usize
     }
 
+    /// How many cells there are, in use or not.
+    pub(crate) fn size(&self) -> usize {
+        self.variables.len()
+    }
+
     /// The cells of the local variables.
     fn local_variables(&self) -> &[Variable]
         ensures { map value_in result.now ≡ self.now.locals }

@@ -182,7 +182,7 @@ impl Pool {
         let mut kept = Vec::with_capacity(alloc, self.kept.len())?;
         copy_items(alloc, self.kept.as_slice(), &mut kept)?;
         let later = Vec::from_slice(alloc, self.later.as_slice())?;
-        let owners = self.owners.copy(alloc)?;
+        let owners = self.owners.copy()?;
         Ok(Pool {
             count: self.count,
             plain: self.plain,

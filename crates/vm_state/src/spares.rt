@@ -8,6 +8,12 @@ use std::marker::Model;
 /// How many are kept at most: more than most programs have frames above one another, and few beside a deep recursion.
 const MOST: usize = 256;
 
+/// A frame of more cells than this is wide: of 64 KB up to 2 MB.
+const WIDE: usize = 4_096;
+
+/// A wide frame's memory is kept only where that of fewer than this many is.
+const FEW: usize = 4;
+
 /// Memory of frames that have ended, which later frames use again. A contract sees nothing of it.
 #[derive(Drop)]
 pub struct Spares {
@@ -30,7 +36,8 @@ impl Spares {
 
     /// Keeps the memory of a frame that has ended, where there is room for it.
     pub fn keep(&mut self, frame: Frame) {
-        if self.cells.len() < MOST && self.cells.reserve(1).is_ok() {
+        let most = if frame.cells.size() > WIDE { FEW } else { MOST };
+        if self.cells.len() < most && self.cells.reserve(1).is_ok() {
             self.cells.push_reserved(frame.cells);
         }
     }

@@ -1,6 +1,7 @@
 -- How far the nearest class that declares a member reaches, along classes that stand depth first.
 use Rattle.std.specs.Prelude.{◌≡◌, ℕ, zero, suc, ◌-◌, ◌<◌, ◌≤◌, ◌⊎◌, ◌∷◌, ◌++◌, [], List, Option, Some, None, length}
-use Rattle.std.specs.Prelude.{slice_get, slice_index_or, fold, nat_lt, if◌then◌else◌}
+use Rattle.std.specs.Prelude.{slice_get, slice_index_or, fold, nat_lt, if◌then◌else◌, Bool, ◌&&◌, take}
+use Rattle.std.specs.Option.{is_none}
 use Rattle.std.specs.declared.vec.Vec.{Vec}
 use Rattle.std.specs.declared.alloc.Global.{Global}
 use Rattle.std.specs.BTreeMap.{get}
@@ -68,6 +69,18 @@ nearest_of (Some reach) = reach.nearest
 abbrev pub last_nearest : List Reach → ℕ → Option DeclaredMember
 last_nearest row zero = None
 last_nearest row (suc n) = nearest_of (slice_get row n)
+
+-- nothing is noted last, and nothing before that
+abbrev pub ends_idle : List Reach → Bool
+ends_idle row = is_none (last_nearest row (length row)) && is_none (last_nearest row (length row - 1))
+
+-- a row without a last reach that says nothing more
+abbrev pub without_idle_end : List Reach → List Reach
+without_idle_end row = if ends_idle row then take (length row - 1) row else row
+
+-- a row that one more reach was noted in
+abbrev pub noted_in : List Reach → Reach → List Reach
+noted_in row reach = without_idle_end row ++ reach ∷ []
 
 -- places go up
 abbrev pub GoUp : List Reach → Type 0

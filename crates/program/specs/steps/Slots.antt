@@ -49,16 +49,16 @@ chain_in chains c = slice_index_or chains c no_chain
 abbrev pub AreChains : Family → List SlotChain → Type 0
 AreChains family chains = (c : ℕ) → IsChain family (slots_of family c) (chain_in chains c)
 
--- by class, of the first ones: what its objects hold as they are made
-abbrev pub AreZeros : Family → List (List Value) → Type 0
-AreZeros family zeros = (c : ℕ) (slots : List Value) → slice_get zeros c ≡ Some slots
+-- by class, of those of which it is kept: what its objects hold as they are made
+abbrev pub AreZeros : Family → List (Option (List Value)) → Type 0
+AreZeros family zeros = (c : ℕ) (slots : List Value) → slice_get zeros c ≡ Some (Some slots)
     → slots ≡ map zero_of (slots_of family c)
 
 -- what is known of the slots of all classes
 pub record SlotTables : Type 0 where
   pub added : List (List FieldKind)
   pub chains : List SlotChain
-  pub zeros : List (List Value)
+  pub zeros : List (Option (List Value))
 
 pub record AreSlots (family : Family) (tables : SlotTables) : Type 0 where
   pub added : AreAddedBy family tables.added

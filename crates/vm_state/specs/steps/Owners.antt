@@ -1,5 +1,5 @@
 -- The monitors that are owned, by the numbers of their objects.
-use Rattle.std.specs.Prelude.{◌≡◌, ℕ, ◌<◌, true, false, length, get_or, List, [], ◌∷◌, ◌==◌, if◌then◌else◌}
+use Rattle.std.specs.Prelude.{◌≡◌, ℕ, List, [], ◌∷◌, ◌==◌, if◌then◌else◌}
 use Rattle.vm_state.specs.declared.object.Monitor.{Monitor}
 use Rattle.vm_state.specs.declared.object.Monitor.TheVariants.{Free}
 
@@ -10,13 +10,3 @@ monitor_in (o ∷ os) k = if k == o.0 then o.1 else monitor_in os k
 -- the monitor of a number is this one now, the others are as they were
 abbrev pub IsMonitorSet : List (ℕ × Monitor) → List (ℕ × Monitor) → ℕ → Monitor → Type 0
 IsMonitorSet old new n m = (k : ℕ) → monitor_in new k ≡ (if k == n then m else monitor_in old k)
-
--- none of the first so many is of this number
-abbrev pub IsNoneOf : ℕ → List (ℕ × Monitor) → ℕ → Type 0
-IsNoneOf n os p = (i : ℕ) (d : ℕ × Monitor) → i < p → (n == (get_or os i d).0) ≡ false
-
--- the first of this number stands at this place
-pub record IsFirstOf (n : ℕ) (os : List (ℕ × Monitor)) (p : ℕ) : Type 0 where
-  pub inside : p < length os
-  pub here : (d : ℕ × Monitor) → (n == (get_or os p d).0) ≡ true
-  pub before : IsNoneOf n os p

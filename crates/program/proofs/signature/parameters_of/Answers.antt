@@ -1,6 +1,6 @@
-use Rattle.std.proofs.Common.{◌≡◌, true, false, [], ◌∷◌, ◌++◌, take, drop, ap, sym, ◌∙◌}
+use Rattle.std.proofs.Common.{◌≡◌, true, false, [], ◌∷◌, ◌++◌, take, drop, ap, subst, sym, ◌∙◌}
 use Rattle.program.specs.Fields.{field_kind}
-use Rattle.program.specs.steps.ParsedSignatures.{type_length, ends_parameters}
+use Rattle.program.specs.steps.ParsedSignatures.{type_length, ends_parameters, AreParameters}
 use Rattle.program.proofs.SignatureLemmas.{one_type, all_read}
 use Rattle.program.proofs.signature.parameters_of.Goals as goal
 
@@ -22,4 +22,5 @@ loop-rest-preserved c =
 pub returns : goal.returns
 returns c =
     let ends : ends_parameters c.loop-rest.rest.now ≡ true = sym c.ends_parameters.ensures ∙ c.loop-rest-test.false in
-    all_read c.args.text.now c.loop-rest.kinds.items c.loop-rest.rest.now ends c.loop-rest.invariant
+    subst (λ kinds. AreParameters c.args.text.now kinds c.loop-rest.rest.now) (sym c.of_kinds.ensures)
+    (all_read c.args.text.now c.loop-rest.kinds.items c.loop-rest.rest.now ends c.loop-rest.invariant)
