@@ -1,0 +1,3 @@
+public interface Main { int N = Other.twice(4); int[] T = { 1, N }; static void main(String[] args) { System.out.println(N); System.out.println(T[1]); Other o = new Other() { public int k() { return T.length; } }; System.out.println(o.k() + o.j()); System.out.println(o.both()); } }
+interface Other extends L, R { static int twice(int x) { System.out.println("twice"); return x + x; } int k(); default int j() { return 10; } default int both() { return L.super.who() * 100 + R.super.who(); } default int who() { return 3; } }
+interface L { default int who() { return 1; } } interface R { default int who() { return 2; } }

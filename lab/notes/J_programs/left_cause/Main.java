@@ -1,0 +1,1 @@
+public class Main { enum E { A, B } public static void main(String[] args) { System.out.println("start"); throw new RuntimeException(new Exception()); } }

@@ -1,0 +1,1 @@
+package java.lang; public interface Iterable<T> { java.util.Iterator<T> iterator(); }

@@ -1,0 +1,1 @@
+public class Main { static abstract class Runner { static int k = Main.start; public static void main(String[] args) { System.out.println(k); Main.start = 9; System.out.println(args.length); System.out.println(Main.start + k); } } static int start = 5; static { System.out.println("outer"); } }

@@ -1,0 +1,3 @@
+class M { static volatile int w0, w1, turn; static int count, done; static volatile int fin; static void lock(int me) { if (me == 0) { w0 = 1; turn = 1; while (w1 == 1 && turn == 1) { } } else { w1 = 1; turn = 0; while (w0 == 1 && turn == 0) { } } } static void unlock(int me) { if (me == 0) w0 = 0; else w1 = 0; } static void run(int me) { for (int i = 0; i < 500; i++) { lock(me); int c = count; count = c + 1; unlock(me); } lock(me); if (++done == 2) System.out.println(count); unlock(me); } }
+public class A { public static void main(String[] args) { M.run(0); } }
+class B { public static void main(String[] args) { M.run(1); } }

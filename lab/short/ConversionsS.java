@@ -1,0 +1,12 @@
+public class ConversionsS {
+    public static void main(String[] args) {
+        int x = 1;
+        long y = 0;
+        for (int i = 0; i < 100000; i++) {
+            y = y + x;
+            x = (int) (y * 31L) + i;
+            x = (byte) x + (char) (x >> 5) - (short) (x >>> 3);
+        }
+        System.out.println(x);
+    }
+}

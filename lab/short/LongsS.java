@@ -1,0 +1,18 @@
+public class LongsS {
+    
+
+    public static void main(String[] args) {
+        long total = 0;
+        long x = 88172645463325252L;
+        for (int i = 0; i < 60000; i++) {
+            x = x ^ x << 13;
+            x = x ^ x >>> 7;
+            x = x ^ x << 17;
+            total = total + x % 1000L - x / 7L;
+            if (x > total) {
+                total = -total & x;
+            }
+        }
+        System.out.println((int) (total ^ total >>> 32));
+    }
+}

@@ -1,0 +1,21 @@
+public class MixedS {
+    
+
+    public static void main(String[] args) {
+        int a = 1;
+        int b = 7; int hits = 0;
+        for (int i = 0; i < 350; i++) {
+            for (int j = 0; j < 350; j++) {
+                int c = a * 3 + b - j;
+                b = a;
+                a = c;
+                if (c < 1000) {
+                    hits++;
+                } else {
+                    a = a - i;
+                }
+            }
+        }
+        System.out.println(a + b + hits);
+    }
+}

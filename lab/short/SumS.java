@@ -1,0 +1,15 @@
+public class SumS {
+    public static void main(String[] args) {
+        int sum = 0;
+        int rounds = 15;
+        do {
+            int i = 30000;
+            do {
+                sum = sum + i;
+                i--;
+            } while (i != 0);
+            rounds--;
+        } while (rounds != 0);
+        System.out.println(sum);
+    }
+}

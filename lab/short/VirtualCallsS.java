@@ -1,0 +1,23 @@
+public class VirtualCallsS {
+    int state;
+
+    int step(int i) {
+        state = state + i;
+        return twice(state);
+    }
+
+    int twice(int i) {
+        return i + i;
+    }
+
+    public static void main(String[] args) {
+        VirtualCallsS[] all = {new VirtualCallsS(), new VirtualCallsS(), new VirtualCallsS()};
+        int at = 0;
+        int sum = 0;
+        for (int i = 0; i < 10000; i++) {
+            sum = sum ^ all[at].step(i);
+            at = at == 2 ? 0 : at + 1;
+        }
+        System.out.println(sum);
+    }
+}
