@@ -1,8 +1,9 @@
 -- Classes to which their ancestors are added.
 use Rattle.std.proofs.Common.{◌≡◌, ℕ, ◌+◌, ◌<◌, ◌≤◌, ◌↔◌, ◌⊎◌, Bool, List, [], ◌∷◌, ◌++◌, length}
-use Rattle.std.proofs.Common.{slice_index, slice_index_or, inl, inr, refl, subst, arith}
+use Rattle.std.proofs.Common.{slice_index, slice_index_or, take, inl, inr, refl, sym, subst, arith}
 use Rattle.std.specs.List.{All, Contains}
 use Rattle.std.proofs.lemmas.Grind.{common_steps}
+use Rattle.std.proofs.lemmas.List.{take_more}
 use Rattle.std.proofs.lemmas.List.Elements.{All-contains, All-weaker, All-nil, Contains-get_or, Contains-append_left}
 use Rattle.std.proofs.lemmas.List.Elements.{Contains-append_right, Contains-append_cases}
 use Rattle.loading.specs.Families.{Family, IsAncestor, parent, further, parents_in}
@@ -49,6 +50,14 @@ adds_both old first middle second new a b = record {
   where
     All-from : ((x : ℕ) → Contains (first ++ second) x → Contains new x) → All (Contains new) (first ++ second)
     All-from each = λ k d small. each _ (Contains-get_or (first ++ second) k d small)
+
+-- one more of a row
+pub adds_next : (old row new next : List ℕ) (i b : ℕ) → i < length row → b ≡ slice_index row i
+    → Adds old (take i row) new → Adds new (b ∷ []) next → Adds old (take (i + 1) row) next
+adds_next old row new next i b small is before one =
+    subst (λ (xs : List ℕ). Adds old xs next) (sym (take_more row i 0 small))
+    (subst (λ (v : ℕ). Adds old (take i row ++ v ∷ []) next) is
+    (adds_both old (take i row) new (b ∷ []) next before one))
 
 -- ---- ancestors
 

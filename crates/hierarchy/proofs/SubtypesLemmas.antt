@@ -3,7 +3,7 @@ use Rattle.std.proofs.Common.{◌≡◌, ◌↔◌, ℕ, suc, zero, ◌≤◌, B
 use Rattle.std.proofs.Common.{refl, sym, ap, ◌∙◌, subst, inl, inr, arith, IsTrue}
 use Rattle.std.specs.List.{Contains, list_any}
 use Rattle.std.proofs.lemmas.Bool.Decides.{same_from_decides}
-use Rattle.std.proofs.lemmas.List.Elements.{Contains-append_cases}
+use Rattle.std.proofs.lemmas.List.Elements.{Contains-append_left, Contains-append_cases}
 use Rattle.std.proofs.lemmas.Option.{slice_get_past}
 use Rattle.built_in.specs.declared.class_id.BuiltIn.{BuiltIn}
 use Rattle.loading.specs.declared.given.Superclass.TheVariants as super
@@ -94,6 +94,13 @@ mark_is_above family c d marked b fits within tells are =
     same_from_decides b (is_above family c d)
     ((λ is. (are d).0 (tells.0 is)), (λ up. tells.1 ((are d).1 up)))
     (above.1, above.0)
+
+-- a direct superinterface stands above a class
+pub interface_is_above : (family : Family) (c d : ℕ) → IsFamily family → AreParentsWithin family
+    → Contains (interfaces_in family c) d → true ≡ is_above family c d
+interface_is_above family c d fits within has =
+    sym ((above_tells family c d fits within).0
+    (parent (Contains-append_left (interfaces_in family c) (superclasses_in family c) d has)))
 
 -- no class is its own superclass
 pub not_its_own : (family : Family) (c d : ℕ) → IsFamily family → c ≡ d

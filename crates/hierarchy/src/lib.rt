@@ -14,6 +14,7 @@ mod class_set;
 mod declarations;
 mod defaults;
 mod depth_first;
+mod few_classes;
 mod found_ahead;
 mod guesses;
 pub mod hierarchy;

@@ -10,6 +10,7 @@ ghost use Rattle.hierarchy.specs.Subtypes.{is_unknown_below};
 ghost use Rattle.hierarchy.specs.Subtypes.{is_object, class_of_element, type_code, is_end_below, end_of_chain};
 
 use crate::class_set::ClassSet;
+use crate::few_classes::FewClasses;
 use crate::hierarchy::Hierarchy;
 use built_in::class_id::{ArrayType, BuiltIn, ClassId, ElementType};
 use std::cmp::Ordering;
@@ -53,9 +54,24 @@ impl Hierarchy {
     {
         let _classes = self.family().classes();
         if self.family().is_interface(other) {
-            self.is_marked_above(class, other)
+            self.is_interface_above(class, other)
         } else {
             self.is_superclass(class, other)
+        }
+    }
+
+    /// Whether the second of two given classes stands above the first. Most classes have few above them, and most often
+    /// it is asked of a direct superinterface.
+    fn is_interface_above(&self, class: u32, other: u32) -> bool
+        ensures { result ≡ is_above self.now.family class other }
+    {
+        let _classes = self.family().classes();
+        if self.family().interfaces(class).contains(&other) {
+            return true;
+        }
+        match FewClasses::ancestors(self.family(), class) {
+            Some(few) => few.has(other),
+            None => self.is_marked_above(class, other),
         }
     }
 
