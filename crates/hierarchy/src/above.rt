@@ -6,11 +6,14 @@ ghost use Rattle.hierarchy.specs.steps.Defaults.{classes_of};
 
 use crate::ancestors::Ancestors;
 use crate::class_set::ClassSet;
+use crate::few_classes::FewClasses;
 
-/// What stands above a class: found by an ascent, whose room was there, or by marks, which take none from the heap.
+/// What stands above a class: found by an ascent, whose room was there, or else, with none from the heap, as a list
+/// where it is few, or by marks.
 #[derive(Clone, Copy)]
 pub(crate) enum Above<'a> {
     Walked(&'a Ancestors),
+    Few(&'a FewClasses),
     Marked(&'a ClassSet),
 }
 
@@ -21,6 +24,7 @@ impl Above<'_> {
     {
         match self {
             Above::Walked(ancestors) => ancestors.place(class).is_some(),
+            Above::Few(few) => few.has(class),
             Above::Marked(marked) => marked.has(class),
         }
     }

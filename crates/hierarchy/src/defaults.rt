@@ -1,11 +1,11 @@
 //! The one default among superinterface methods (JVMS 5.4.3.3). The interfaces that declare a method are noted beside
 //! its name and descriptor, so that what is asked of the ancestors of a class is whether they are among these.
 
-ghost use Rattle.std.specs.Prelude.{◌≡◌, ◌↔◌, ◌<◌, ◌++◌, ℕ, List, length, IsTrue, MatchOption};
+ghost use Rattle.std.specs.Prelude.{◌≡◌, ◌↔◌, ◌<◌, ◌++◌, ℕ, List, [], length, IsTrue, IfSome, MatchOption};
 ghost use Rattle.std.specs.List.{Contains};
 ghost use Rattle.hierarchy.specs.declared.defaults.FoundMethods.TheVariants as found;
 ghost use Rattle.hierarchy.specs.steps.Defaults.{AreFound, found_after, only_of, HasMethod, IsFree, AreCovered};
-ghost use Rattle.hierarchy.specs.steps.Defaults.{AreParentsOf, classes_of, Among};
+ghost use Rattle.hierarchy.specs.steps.Defaults.{AreParentsOf, AreDefaults, classes_of, Among};
 ghost use Rattle.hierarchy.specs.steps.Reaches.{class_noted};
 ghost use Rattle.loading.specs.Families.{IsAncestor, parents_in};
 ghost use Rattle.built_in.specs.Keys.{NameAndType};
@@ -14,6 +14,7 @@ ghost use Rattle.hierarchy.specs.MemberLookup.{is_abstract, IsTheDefault, HasNoD
 
 use crate::above::Above;
 use crate::class_set::ClassSet;
+use crate::few_classes::FewClasses;
 use crate::hierarchy::Hierarchy;
 use crate::member::DeclaredMember;
 use crate::member_key::MemberKey;
@@ -90,10 +91,26 @@ impl Hierarchy {
         !interfaces.is_empty() || self.given_superclass(class).is_some()
     }
 
+    /// The one default of a class, by a list of its ancestors or by marks of them. A list is looked through for each
+    /// class that was noted, so it serves where few were.
+    fn default_above(&self, class: u32, key: Option<MemberKey>) -> Option<DeclaredMember>
+        ensures { (name : NameAndType) → IsLookup self.now.texts name key
+            → MatchOption result (HasNoDefault self.now.family name class)
+            (λ x. IsTheDefault self.now.family name class x.class x.index) }
+    {
+        if self.noted(Wanted::InterfaceMethod, key).len() > 64 {
+            return self.default_marked(class, key);
+        }
+        match FewClasses::ancestors(self.family(), class) {
+            Some(few) => self.default_among(class, Above::Few(&few), key),
+            None => self.default_marked(class, key),
+        }
+    }
+
     /// The one default of a class, by marks of all its ancestors. It stands apart, as its marks take 192 KB of the
     /// stack: a caller that has them in its own frame pays for them at each call.
     #[inline(never)]
-    fn default_above(&self, class: u32, key: Option<MemberKey>) -> Option<DeclaredMember>
+    fn default_marked(&self, class: u32, key: Option<MemberKey>) -> Option<DeclaredMember>
         ensures { (name : NameAndType) → IsLookup self.now.texts name key
             → MatchOption result (HasNoDefault self.now.family name class)
             (λ x. IsTheDefault self.now.family name class x.class x.index) }
@@ -130,11 +147,32 @@ impl Hierarchy {
                     index,
                 })
             }
-            FoundMethods::Several => {
-                let covered = self.above_candidates(above, key);
-                self.defaults(above, &covered, key).only()
-            }
+            FoundMethods::Several => self.all_defaults(above, key).only(),
         }
+    }
+
+    /// The defaults among the ancestors, where a list of those is there by a list of what they cover.
+    fn all_defaults(&self, above: Above<'_>, key: Option<MemberKey>) -> FoundMethods
+        ensures { (name : NameAndType) → IsLookup self.now.texts name key
+            → AreDefaults self.now.family name (classes_of above.entry) result }
+    {
+        if !matches!(above, Above::Few(_)) {
+            return self.marked_defaults(above, key);
+        }
+        match self.few_above_candidates(above, key) {
+            Some(covered) => self.defaults(above, Above::Few(&covered), key),
+            None => self.marked_defaults(above, key),
+        }
+    }
+
+    /// The defaults among the ancestors, by marks of what these cover. It stands apart, as `default_marked` does.
+    #[inline(never)]
+    fn marked_defaults(&self, above: Above<'_>, key: Option<MemberKey>) -> FoundMethods
+        ensures { (name : NameAndType) → IsLookup self.now.texts name key
+            → AreDefaults self.now.family name (classes_of above.entry) result }
+    {
+        let covered = self.above_candidates(above, key);
+        self.defaults(above, Above::Marked(&covered), key)
     }
 
     /// The ancestors that have the method.
@@ -228,10 +266,68 @@ impl Hierarchy {
         }
     }
 
-    /// The defaults among the ancestors: those that are not covered.
-    fn defaults(&self, above: Above<'_>, covered: &ClassSet, key: Option<MemberKey>) -> FoundMethods
+    /// The classes that stand above an ancestor that has the method, where they are few.
+    fn few_above_candidates(&self, above: Above<'_>, key: Option<MemberKey>) -> Option<FewClasses>
         ensures { (name : NameAndType) → IsLookup self.now.texts name key
-            → AreFound (IsFree self.now.family name covered.now) (classes_of above.entry) result }
+            → IfSome result (λ covered. AreCovered self.now.family name (classes_of above.entry) covered) }
+    {
+        let mut covered = FewClasses::none();
+        if !self.add_parents_of_few(above, key, &mut covered) {
+            return None;
+        }
+        if !covered.add_above(self.family()) {
+            return None;
+        }
+        Some(covered)
+    }
+
+    /// Adds the parents of the ancestors that have the method to no classes, if there is room.
+    fn add_parents_of_few(
+        &self,
+        above: Above<'_>,
+        key: Option<MemberKey>,
+        parents: &mut FewClasses,
+    ) -> bool
+        requires { parents.old ≡ [] }
+        ensures { (name : NameAndType) → IsLookup self.now.texts name key → IsTrue result
+            → AreParentsOf self.now.family (HasMethod self.now.family name) (classes_of above.entry) parents.new }
+    {
+        let row = self.noted(Wanted::InterfaceMethod, key);
+        for reach in row {
+            if !self.add_few_parents_of(above, key, reach, parents) {
+                return false;
+            }
+        }
+        true
+    }
+
+    /// Adds the parents of a class that was noted, if it is an ancestor that has the method and there is room.
+    fn add_few_parents_of(
+        &self,
+        above: Above<'_>,
+        key: Option<MemberKey>,
+        reach: &Reach,
+        parents: &mut FewClasses,
+    ) -> bool
+        ensures { (name : NameAndType) (asked : List ℕ) → IsLookup self.now.texts name key → IsTrue result
+            → AreParentsOf self.now.family (Among (HasMethod self.now.family name) (classes_of above.entry)) asked
+            parents.old
+            → AreParentsOf self.now.family (Among (HasMethod self.now.family name) (classes_of above.entry))
+            (asked ++ class_noted reach.now.nearest) parents.new }
+    {
+        let Some(member) = reach.nearest else {
+            return true;
+        };
+        if self.candidate(above, key, member.class).is_some() {
+            return parents.add_parents(self.family(), member.class);
+        }
+        true
+    }
+
+    /// The defaults among the ancestors: those that are not covered.
+    fn defaults(&self, above: Above<'_>, covered: Above<'_>, key: Option<MemberKey>) -> FoundMethods
+        ensures { (name : NameAndType) → IsLookup self.now.texts name key
+            → AreFound (IsFree self.now.family name (classes_of covered.entry)) (classes_of above.entry) result }
     {
         let mut found = FoundMethods::Nothing;
         let row = self.noted(Wanted::InterfaceMethod, key);
@@ -245,14 +341,15 @@ impl Hierarchy {
     fn with_default(
         &self,
         above: Above<'_>,
-        covered: &ClassSet,
+        covered: Above<'_>,
         key: Option<MemberKey>,
         found: FoundMethods,
         reach: &Reach,
     ) -> FoundMethods
         ensures { (name : NameAndType) (asked : List ℕ) → IsLookup self.now.texts name key
-            → AreFound (Among (IsFree self.now.family name covered.now) (classes_of above.entry)) asked found
-            → AreFound (Among (IsFree self.now.family name covered.now) (classes_of above.entry))
+            → AreFound (Among (IsFree self.now.family name (classes_of covered.entry)) (classes_of above.entry)) asked
+            found
+            → AreFound (Among (IsFree self.now.family name (classes_of covered.entry)) (classes_of above.entry))
             (asked ++ class_noted reach.now.nearest) result }
     {
         let Some(member) = reach.nearest else {
@@ -267,10 +364,10 @@ impl Hierarchy {
     }
 
     /// The place of a class's method, if the class is not covered and the method not abstract.
-    fn default_in(&self, class: u32, covered: &ClassSet, key: Option<MemberKey>) -> Option<u16>
+    fn default_in(&self, class: u32, covered: Above<'_>, key: Option<MemberKey>) -> Option<u16>
         ensures { (name : NameAndType) → IsLookup self.now.texts name key
-            → MatchOption result ((k : ℕ) → ¬ IsFree self.now.family name covered.now class k)
-            (λ k. IsFree self.now.family name covered.now class k) }
+            → MatchOption result ((k : ℕ) → ¬ IsFree self.now.family name (classes_of covered.entry) class k)
+            (λ k. IsFree self.now.family name (classes_of covered.entry) class k) }
     {
         let index = self.find(Wanted::InterfaceMethod, class, key)?;
         if is_abstract(self.flags(class, index)) {

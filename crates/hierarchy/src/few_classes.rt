@@ -96,7 +96,7 @@ impl FewClasses {
     }
 
     /// Adds the given parents of a class, if there is room.
-    fn add_parents(&mut self, family: &Family, class: u32) -> bool
+    pub(crate) fn add_parents(&mut self, family: &Family, class: u32) -> bool
         ensures { IsTrue result → Adds self.old (parents_in family.now class) self.new }
     {
         if !self.add_all(family.interfaces(class)) {
@@ -109,7 +109,7 @@ impl FewClasses {
     }
 
     /// Adds all ancestors of the members, if there is room.
-    fn add_above(&mut self, family: &Family) -> bool
+    pub(crate) fn add_above(&mut self, family: &Family) -> bool
         ensures { IsTrue result → (m : ℕ) → Contains self.new m ↔ IsAmongOrAbove family.now self.old m }
     {
         let mut next = 0;

@@ -37,6 +37,7 @@ only_of found.Several = None
 
 abbrev pub classes_of : Above → List ℕ
 classes_of (above.Walked ancestors) = ancestors.now.items
+classes_of (above.Few few) = few.now
 classes_of (above.Marked marked) = marked.now
 
 -- ---- methods of interfaces
@@ -64,6 +65,11 @@ AreParentsOf family Is classes parents =
 abbrev pub IsFree : Family → NameAndType → List ℕ → ℕ → ℕ → Type 0
 IsFree family key covered i k =
     HasMethod family key i k × (is_abstract (flags_in family i k) ≡ false) × (¬ Contains covered i)
+
+-- the methods among some classes that are not abstract, of interfaces above no candidate
+abbrev pub AreDefaults : Family → NameAndType → List ℕ → FoundMethods → Type 0
+AreDefaults family key classes found =
+    (covered : List ℕ) × AreCovered family key classes covered × AreFound (IsFree family key covered) classes found
 
 -- a method of some kind of one of some classes
 abbrev pub Among : (ℕ → ℕ → Type 0) → List ℕ → ℕ → ℕ → Type 0

@@ -28,6 +28,6 @@ returns-else-is_abstract c = λ name is.
 
 pub returns-in-Several : goal.returns-in-Several
 returns-in-Several c = λ name is.
+    let all = c.all_defaults.ensures name is in
     rw c.only.ensures (when_all_seen c.args.self.now.family name c.args.class (classes_of c.args.above) c.requires
-    c.above_candidates-covered.result (c.above_candidates-covered.ensures name is) c.defaults.result
-    (c.defaults.ensures name is))
+    all.0 all.1 c.all_defaults.result all.2)

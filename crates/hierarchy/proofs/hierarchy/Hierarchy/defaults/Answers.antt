@@ -9,12 +9,12 @@ use Rattle.hierarchy.proofs.hierarchy.Hierarchy.defaults.Goals as goal
 
 pub loop-reach-init : goal.loop-reach-init
 loop-reach-init c = λ name is.
-    none_yet (Among (IsFree c.args.self.now.family name c.args.covered.now) (classes_of c.args.above))
+    none_yet (Among (IsFree c.args.self.now.family name (classes_of c.args.covered)) (classes_of c.args.above))
 
 pub loop-reach-preserved : goal.loop-reach-preserved
 loop-reach-preserved c = λ name is.
     let Is : ℕ → ℕ → Type 0 =
-    Among (IsFree c.args.self.now.family name c.args.covered.now) (classes_of c.args.above) in
+    Among (IsFree c.args.self.now.family name (classes_of c.args.covered)) (classes_of c.args.above) in
     let row : List Reach = c.noted-row.result.now in
     let seen = classes_noted (take c.loop-reach.reach-index row) in
     subst (λ (l : List ℕ). AreFound Is l c.with_default-found.result)
@@ -23,7 +23,7 @@ loop-reach-preserved c = λ name is.
 
 pub returns : goal.returns
 returns c = λ name is.
-    let Is : ℕ → ℕ → Type 0 = IsFree c.args.self.now.family name c.args.covered.now in
+    let Is : ℕ → ℕ → Type 0 = IsFree c.args.self.now.family name (classes_of c.args.covered) in
     let among : List ℕ = classes_of c.args.above in
     let row : List Reach = c.noted-row.result.now in
     found_among Is among (classes_noted row) (λ i k has. c.noted-row.ensures name i k is has.0) c.loop-reach.found

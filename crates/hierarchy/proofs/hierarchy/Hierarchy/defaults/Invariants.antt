@@ -7,5 +7,5 @@ use Rattle.hierarchy.proofs.hierarchy.Hierarchy.defaults.Given as goal
 
 abbrev pub invariant-loop-reach : goal.invariant-loop-reach
 invariant-loop-reach l = (name : NameAndType) → IsLookup l.self.texts name l.key
-    → AreFound (Among (IsFree l.self.family name l.covered) (classes_of l.above))
+    → AreFound (Among (IsFree l.self.family name (classes_of l.covered)) (classes_of l.above))
     (classes_noted (take l.reach-index l.row)) l.found

@@ -8,13 +8,13 @@ use Rattle.hierarchy.proofs.hierarchy.Hierarchy.with_default.Goals as goal
 pub returns-in_default : goal.returns-in_default
 returns-in_default c = λ name asked is are.
     let Is : ℕ → ℕ → Type 0 =
-    Among (IsFree c.args.self.now.family name c.args.covered.now) (classes_of c.args.above) in
+    Among (IsFree c.args.self.now.family name (classes_of c.args.covered)) (classes_of c.args.above) in
     subst (λ (o : Option DeclaredMember). AreFound Is (asked ++ class_noted o) c.args.found) (sym c.in_default.is)
     (subst (λ (l : List ℕ). AreFound Is l c.args.found) (sym (append-nil asked)) are)
 
 pub returns-then-has : goal.returns-then-has
 returns-then-has c = λ name asked is are.
-    let free : ℕ → ℕ → Type 0 = IsFree c.args.self.now.family name c.args.covered.now in
+    let free : ℕ → ℕ → Type 0 = IsFree c.args.self.now.family name (classes_of c.args.covered) in
     let among : List ℕ = classes_of c.args.above in
     let class = c.in-Some.member.class in
     let index = c.default_in-index.result in
@@ -25,7 +25,7 @@ returns-then-has c = λ name asked is are.
 
 pub returns-else-has : goal.returns-else-has
 returns-else-has c = λ name asked is are.
-    let free : ℕ → ℕ → Type 0 = IsFree c.args.self.now.family name c.args.covered.now in
+    let free : ℕ → ℕ → Type 0 = IsFree c.args.self.now.family name (classes_of c.args.covered) in
     let among : List ℕ = classes_of c.args.above in
     subst (λ (o : Option DeclaredMember). AreFound (Among free among) (asked ++ class_noted o) c.args.found)
     (sym c.in-Some.is)
