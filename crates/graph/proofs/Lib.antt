@@ -1,5 +1,5 @@
 pub mod SeenLemmas
-pub mod MarksLemmas
+pub mod FlagsLemmas
 pub mod RowsLemmas
 pub mod ReachesLemmas
 pub mod AddsLemmas

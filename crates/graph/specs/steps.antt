@@ -3,4 +3,4 @@ pub mod Finishing
 pub mod Reverse
 pub mod Numbering
 pub mod Descending
-pub mod Marks
+pub mod Flags

@@ -11,20 +11,20 @@ use std::marker::Model;
 #[derive(Drop)]
 pub struct Visited {
     /// By number: whether it is a member.
-    marks: Vec<bool>,
+    flags: Vec<bool>,
     order: Vec<usize>,
 }
 
 impl Model for Visited {
     ghost use Rattle.std.specs.Prelude.{length};
     ghost use Rattle.graph.specs.Seen.{Seen};
-    ghost use Rattle.graph.specs.steps.Marks.{IsVisited};
+    ghost use Rattle.graph.specs.steps.Flags.{IsVisited};
 
     ghost Value = { Seen };
 
-    ghost view = { λ v. record { limit = length v.marks.items; items = v.order.items } };
+    ghost view = { λ v. record { limit = length v.flags.items; items = v.order.items } };
 
-    ghost invariant = { λ v. IsVisited v.marks.items v.order.items };
+    ghost invariant = { λ v. IsVisited v.flags.items v.order.items };
 }
 
 impl Visited {
@@ -36,9 +36,9 @@ impl Visited {
         ensures items { IfOk result (λ v. v.items ≡ []) }
         ensures limit { IfOk result (λ v. v.limit ≡ limit) }
     {
-        let marks = vec![in alloc; false; limit]?;
+        let flags = vec![in alloc; false; limit]?;
         Ok(Visited {
-            marks,
+            flags,
             order: Vec::new(alloc),
         })
     }
@@ -72,7 +72,7 @@ impl Visited {
     pub fn has(&self, member: usize) -> bool
         ensures { IsTrue result ↔ Contains self.now.items member }
     {
-        member < self.marks.len() && self.marks[member]
+        member < self.flags.len() && self.flags[member]
     }
 
     /// Adds a member, and says whether it is new.
@@ -86,11 +86,11 @@ impl Visited {
         ensures ok { IfOk result (λ fresh. Joins fresh self.old.items member self.new.items) }
         ensures err { OnErr result (self.new.items ≡ self.old.items) }
     {
-        if self.marks[member] {
+        if self.flags[member] {
             return Ok(false);
         }
         self.order.push(member)?;
-        self.marks[member] = true;
+        self.flags[member] = true;
         Ok(true)
     }
 
@@ -100,7 +100,7 @@ impl Visited {
         ensures limit { self.new.limit ≡ self.old.limit }
     {
         while let Some(member) = self.order.pop() {
-            self.marks[member] = false;
+            self.flags[member] = false;
         }
     }
 }

@@ -342,7 +342,7 @@ module _ (h : NumberedFamily) (declared : List Declaration) (start : ℕ) (name 
         let coded : e.coded ≡ true =
         code_is ∙ ap not (ap (flags_abstract e.member.class) (sym place) ∙ default.1) in
         let present : Has known.present n = knows.present.1 (above_one c e.member.class default.0.0.0) in
-        let mark : Has mask.coded n = (masks.coded n small).1 (e, at, (same ∙ sym key_is_same, coded)) in
+        let flag : Has mask.coded n = (masks.coded n small).1 (e, at, (same ∙ sym key_is_same, coded)) in
         let shown : ¬ Has known.hidden n = λ hidden.
         (let over = knows.hidden.0 hidden in
         elim (among_one c over.0 over.2) [
@@ -351,7 +351,7 @@ module _ (h : NumberedFamily) (declared : List Declaration) (start : ℕ) (name 
               sym lacks ∙ ap (interface_method_in h.family name) (sym here) ∙ over.1.1 in cc)
           | inr up ↦ default.0.1 over.0 over.1.0 (up, over.1.1) over.3
         ]) in
-        unset ((bits n small).1 ((highs n).1 (present, mark), shown))
+        unset ((bits n small).1 ((highs n).1 (present, flag), shown))
       where
         flags_abstract : ℕ → ℕ → Bool
         flags_abstract class k = is_abstract (flags_in h.family class k)

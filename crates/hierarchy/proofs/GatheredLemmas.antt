@@ -10,7 +10,7 @@ use Rattle.hierarchy.specs.steps.InterfaceOrders.{AddsInterfaces, Gathers, TellF
 use Rattle.hierarchy.specs.steps.Ascents.{ParentsBefore, none, next}
 use Rattle.hierarchy.proofs.AboveLemmas.{interface_parents}
 use Rattle.hierarchy.proofs.FirstsLemmas.{filter_again, kept_joined}
-use Rattle.hierarchy.proofs.InterfaceOrdersLemmas.{marks_tell, superinterfaces_first}
+use Rattle.hierarchy.proofs.InterfaceOrdersLemmas.{flags_tell, superinterfaces_first}
 
 before_append : {family : Family} {is all js more : List ℕ} → ParentsBefore family is all
     → ParentsBefore family js more → ParentsBefore family (is ++ js) (all ++ more)
@@ -50,25 +50,25 @@ gathers_own family c seen new b fits is above test added = record {
     itself false e = sym (ap (λ (b : Bool). cond b (c ∷ []) []) e)
 
 -- of a list those alone that are initialized
-pub gathers_marked : (family : Family) (is seen list : List ℕ) (marks : List Bool) → TellFirst family marks
-    → Gathers family is seen → list ≡ [] ++ filter (λ c. get_or marks c false) seen → Gathers family is list
-gathers_marked family is seen list marks tells before added = record {
+pub gathers_flagged : (family : Family) (is seen list : List ℕ) (flags : List Bool) → TellFirst family flags
+    → Gathers family is seen → list ≡ [] ++ filter (λ c. get_or flags c false) seen → Gathers family is list
+gathers_flagged family is seen list flags tells before added = record {
   all = before.all;
   stand = before.stand;
   kept = filter_again (is_initialized_first family) list seen
       (filter (is_initialized_first family) (firsts before.all))
-      (added ∙ filter_agree (λ c. get_or marks c false) (is_initialized_first family)
-      (λ i. marks_tell family marks i tells) seen) before.kept;
+      (added ∙ filter_agree (λ c. get_or flags c false) (is_initialized_first family)
+      (λ i. flags_tell family flags i tells) seen) before.kept;
 }
 
-pub marked_added : (family : Family) (is seen old new : List ℕ) (marks : List Bool) → IsFamily family
-    → TellFirst family marks → ((i : ℕ) → Contains is i → is_interface_in family i ≡ true) → Gathers family is seen
-    → new ≡ old ++ filter (λ c. get_or marks c false) seen
+pub flagged_added : (family : Family) (is seen old new : List ℕ) (flags : List Bool) → IsFamily family
+    → TellFirst family flags → ((i : ℕ) → Contains is i → is_interface_in family i ≡ true) → Gathers family is seen
+    → new ≡ old ++ filter (λ c. get_or flags c false) seen
     → AddsInterfaces family is old new
-marked_added family is seen old new marks fits tells are gathered added = record {
+flagged_added family is seen old new flags fits tells are gathered added = record {
   all = gathered.all;
   stand = superinterfaces_first family fits gathered.stand are;
   kept = added ∙ ap (λ (xs : List ℕ). old ++ xs)
-      (filter_agree (λ c. get_or marks c false) (is_initialized_first family)
-      (λ i. marks_tell family marks i tells) seen ∙ gathered.kept);
+      (filter_agree (λ c. get_or flags c false) (is_initialized_first family)
+      (λ i. flags_tell family flags i tells) seen ∙ gathered.kept);
 }

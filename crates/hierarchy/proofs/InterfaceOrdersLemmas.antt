@@ -35,28 +35,28 @@ superinterfaces_first family fits (ascents.next {c} {cs} {above = low} {rest} lo
     next (subst (λ (xs : List ℕ). SuperinterfacesFirst family xs low) parents under)
     (superinterfaces_first family fits higher (λ i h. are i (in_rest c cs i h)))
 
-get_or_past : (marks : List Bool) (i : ℕ) → length marks ≤ i → get_or marks i false ≡ false
+get_or_past : (flags : List Bool) (i : ℕ) → length flags ≤ i → get_or flags i false ≡ false
 get_or_past [] i past = refl
-get_or_past (m ∷ marks) zero past = absurd (omega (arith, past))
-get_or_past (m ∷ marks) (suc i) past = get_or_past marks i (omega arith)
+get_or_past (m ∷ flags) zero past = absurd (omega (arith, past))
+get_or_past (m ∷ flags) (suc i) past = get_or_past flags i (omega arith)
 
 -- a number of no class is not initialized
-pub marks_tell : (family : Family) (marks : List Bool) (i : ℕ) → TellFirst family marks
-    → get_or marks i false ≡ is_initialized_first family i
-marks_tell family marks i are = elim (cases_lt i (length marks)) [
+pub flags_tell : (family : Family) (flags : List Bool) (i : ℕ) → TellFirst family flags
+    → get_or flags i false ≡ is_initialized_first family i
+flags_tell family flags i are = elim (cases_lt i (length flags)) [
   | inl small ↦ are.tell i small
-  | inr past ↦ get_or_past marks i past
+  | inr past ↦ get_or_past flags i past
       ∙ sym (ap (λ (g : Option GivenClass). passes declares_default (file_of g))
       (slice_get_past family i (omega (arith, are.count))))
 ]
 
--- one more class is marked
-pub marked_next : (family : Family) (old new : List Bool) (b : Bool) (c : ℕ) → new ≡ old ++ b ∷ []
+-- one more class is flagged
+pub flagged_next : (family : Family) (old new : List Bool) (b : Bool) (c : ℕ) → new ≡ old ++ b ∷ []
     → length old ≡ c
     → b ≡ is_initialized_first family c
     → ((i : ℕ) → i < length old → get_or old i false ≡ is_initialized_first family i)
     → (i : ℕ) → i < length new → get_or new i false ≡ is_initialized_first family i
-marked_next family old new b c push count is before i small = elim (cases_lt i (length old)) [
+flagged_next family old new b c push count is before i small = elim (cases_lt i (length old)) [
   | inl less ↦ rw push (earlier less ∙ before i less)
   | inr last ↦ (let at : i ≡ length old = omega (arith, ap length push, length_push old b) in
       rw (push, at) (here ∙ is ∙ ap (is_initialized_first family) (sym count)))

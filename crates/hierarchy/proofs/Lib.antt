@@ -13,7 +13,7 @@ pub mod MaskLemmas
 pub mod WindowsLemmas
 pub mod AnswersLemmas
 pub mod FoundAheadLemmas
-pub mod MarkLemmas
+pub mod FlagLemmas
 pub mod ClassSetLemmas
 pub mod DefaultsLemmas
 pub mod FirstsLemmas

@@ -86,10 +86,10 @@ superclass_tells family c d fits within plain =
     )
     (above.1, above.0)
 
--- what is marked as above is above
-pub mark_is_above : (family : Family) (c d : ℕ) (marked : List ℕ) (b : Bool) → IsFamily family → AreParentsWithin family
-    → IsTrue b ↔ Contains marked d → ((m : ℕ) → Contains marked m ↔ IsAncestor family c m) → b ≡ is_above family c d
-mark_is_above family c d marked b fits within tells are =
+-- what is flagged as above is above
+pub flag_is_above : (family : Family) (c d : ℕ) (flagged : List ℕ) (b : Bool) → IsFamily family → AreParentsWithin family
+    → IsTrue b ↔ Contains flagged d → ((m : ℕ) → Contains flagged m ↔ IsAncestor family c m) → b ≡ is_above family c d
+flag_is_above family c d flagged b fits within tells are =
     let above = above_tells family c d fits within in
     same_from_decides b (is_above family c d)
     ((λ is. (are d).0 (tells.0 is)), (λ up. tells.1 ((are d).1 up)))

@@ -14,7 +14,7 @@ pub mod Sweeps
 pub mod Tops
 pub mod NearestMembers
 pub mod WholeHierarchies
-pub mod Marked
+pub mod Flagged
 pub mod Ancestors
 pub mod ParentSteps
 pub mod DeclarationBits

@@ -9,12 +9,12 @@ use crate::class_set::ClassSet;
 use crate::few_classes::FewClasses;
 
 /// What stands above a class: found by an ascent, whose room was there, or else, with none from the heap, as a list
-/// where it is few, or by marks.
+/// where it is few, or by flags.
 #[derive(Clone, Copy)]
 pub(crate) enum Above<'a> {
     Walked(&'a Ancestors),
     Few(&'a FewClasses),
-    Marked(&'a ClassSet),
+    Flagged(&'a ClassSet),
 }
 
 impl Above<'_> {
@@ -25,7 +25,7 @@ impl Above<'_> {
         match self {
             Above::Walked(ancestors) => ancestors.place(class).is_some(),
             Above::Few(few) => few.has(class),
-            Above::Marked(marked) => marked.has(class),
+            Above::Flagged(flagged) => flagged.has(class),
         }
     }
 }

@@ -11,24 +11,24 @@ use loading::family::Family;
 use loading::given::Superclass;
 use std::marker::Model;
 
-/// Classes of a family in the order in which they came, each once. A family has fewer classes than there are marks.
+/// Classes of a family in the order in which they came, each once. A family has fewer classes than there are flags.
 #[derive(Drop)]
 pub(crate) struct ClassSet {
     /// By number: whether the class is a member.
-    marks: [bool; 65_536],
+    flags: [bool; 65_536],
     members: [u16; 65_536],
     count: usize,
 }
 
 impl Model for ClassSet {
     ghost use Rattle.std.specs.Prelude.{List, ℕ, take};
-    ghost use Rattle.hierarchy.specs.steps.Marked.{IsMarked};
+    ghost use Rattle.hierarchy.specs.steps.Flagged.{IsFlagged};
 
     ghost Value = { List ℕ };
 
     ghost view = { λ s. take s.count s.members };
 
-    ghost invariant = { λ s. IsMarked s.marks s.members s.count };
+    ghost invariant = { λ s. IsFlagged s.flags s.members s.count };
 }
 
 impl ClassSet {
@@ -37,7 +37,7 @@ impl ClassSet {
         ensures { result ≡ [] }
     {
         ClassSet {
-            marks: [false; 65_536],
+            flags: [false; 65_536],
             members: [0; 65_536],
             count: 0,
         }
@@ -48,10 +48,10 @@ impl ClassSet {
         ensures members { (m : ℕ) → Contains result m ↔ IsAncestor family.now class m }
         ensures fits { IsFamily family.now }
     {
-        let mut marked = ClassSet::none();
-        marked.add_parents(family, class);
-        marked.add_above(family);
-        marked
+        let mut flagged = ClassSet::none();
+        flagged.add_parents(family, class);
+        flagged.add_above(family);
+        flagged
     }
 
     /// The members.
@@ -66,8 +66,8 @@ impl ClassSet {
     pub(crate) fn has(&self, class: u32) -> bool
         ensures { IsTrue result ↔ Contains self.now class }
     {
-        match self.marks.get(class as usize) {
-            Some(mark) => *mark,
+        match self.flags.get(class as usize) {
+            Some(flag) => *flag,
             None => false,
         }
     }
@@ -77,12 +77,12 @@ impl ClassSet {
         requires { class < 65536 }
         ensures { Joins result self.old class self.new }
     {
-        if self.marks[class as usize] {
+        if self.flags[class as usize] {
             return false;
         }
         self.members[self.count] = class as u16;
         self.count += 1;
-        self.marks[class as usize] = true;
+        self.flags[class as usize] = true;
         true
     }
 

@@ -91,7 +91,7 @@ impl Hierarchy {
         !interfaces.is_empty() || self.given_superclass(class).is_some()
     }
 
-    /// The one default of a class, by a list of its ancestors or by marks of them. A list is looked through for each
+    /// The one default of a class, by a list of its ancestors or by flags of them. A list is looked through for each
     /// class that was noted, so it serves where few were.
     fn default_above(&self, class: u32, key: Option<MemberKey>) -> Option<DeclaredMember>
         ensures { (name : NameAndType) → IsLookup self.now.texts name key
@@ -99,24 +99,24 @@ impl Hierarchy {
             (λ x. IsTheDefault self.now.family name class x.class x.index) }
     {
         if self.noted(Wanted::InterfaceMethod, key).len() > 64 {
-            return self.default_marked(class, key);
+            return self.default_flagged(class, key);
         }
         match FewClasses::ancestors(self.family(), class) {
             Some(few) => self.default_among(class, Above::Few(&few), key),
-            None => self.default_marked(class, key),
+            None => self.default_flagged(class, key),
         }
     }
 
-    /// The one default of a class, by marks of all its ancestors. It stands apart, as its marks take 192 KB of the
+    /// The one default of a class, by flags of all its ancestors. It stands apart, as its flags take 192 KB of the
     /// stack: a caller that has them in its own frame pays for them at each call.
     #[inline(never)]
-    fn default_marked(&self, class: u32, key: Option<MemberKey>) -> Option<DeclaredMember>
+    fn default_flagged(&self, class: u32, key: Option<MemberKey>) -> Option<DeclaredMember>
         ensures { (name : NameAndType) → IsLookup self.now.texts name key
             → MatchOption result (HasNoDefault self.now.family name class)
             (λ x. IsTheDefault self.now.family name class x.class x.index) }
     {
-        let marked = ClassSet::ancestors(self.family(), class);
-        self.default_among(class, Above::Marked(&marked), key)
+        let flagged = ClassSet::ancestors(self.family(), class);
+        self.default_among(class, Above::Flagged(&flagged), key)
     }
 
     /// The one default of a class with these ancestors. Those that have the method are among the classes that were
@@ -151,7 +151,7 @@ impl Hierarchy {
         }
     }
 
-    /// The defaults among the ancestors. It stands apart, as `default_marked` does.
+    /// The defaults among the ancestors. It stands apart, as `default_flagged` does.
     #[inline(never)]
     fn all_defaults(&self, above: Above<'_>, key: Option<MemberKey>) -> FoundMethods
         ensures { (name : NameAndType) → IsLookup self.now.texts name key

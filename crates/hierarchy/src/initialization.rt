@@ -11,7 +11,7 @@ ghost use Rattle.hierarchy.specs.Search.{row_in};
 
 use crate::ascent::Ascent;
 use crate::class_lists::{ClassLists, empty_lists};
-use crate::initialized_first::{add_marked, initialized_first};
+use crate::initialized_first::{add_flagged, initialized_first};
 use crate::short_orders::{ShortOrders, gather};
 use loading::family::Family;
 use loading::given::{ClassNumbers, Superclass};
@@ -110,7 +110,7 @@ fn order_of(
     }
     let mut order = superclass_alone(alloc, family, class)?;
     leave_above(family, class, short, ascent)?;
-    add_marked(ascent.left(), first, &mut order)?;
+    add_flagged(ascent.left(), first, &mut order)?;
     Ok(ClassNumbers::new(order))
 }
 

@@ -11,14 +11,14 @@ use std::alloc::{AllocError, Global};
 
 /// By class: whether it declares a method that is neither abstract nor static.
 pub(crate) fn initialized_first(alloc: Global, family: &Family) -> Result<Vec<bool>, AllocError>
-    ensures { IfOk result (λ marks. TellFirst family.now marks.items) }
+    ensures { IfOk result (λ flags. TellFirst family.now flags.items) }
 {
     let count = family.classes().len();
-    let mut marks = Vec::with_capacity(alloc, count)?;
+    let mut flags = Vec::with_capacity(alloc, count)?;
     for class in 0..count {
-        marks.push(is_initialized_first(family, class as u32))?;
+        flags.push(is_initialized_first(family, class as u32))?;
     }
-    Ok(marks)
+    Ok(flags)
 }
 
 fn is_initialized_first(family: &Family, class: u32) -> bool
@@ -30,22 +30,22 @@ fn is_initialized_first(family: &Family, class: u32) -> bool
     }
 }
 
-/// Adds those members that are marked.
-pub(crate) fn add_marked(
+/// Adds those members that are flagged.
+pub(crate) fn add_flagged(
     seen: &Visited,
-    marks: &[bool],
+    flags: &[bool],
     numbers: &mut Vec<u32>,
 ) -> Result<(), AllocError>
-    requires limit { seen.now.limit ≡ length marks.now }
-    requires few { length marks.now ≤ 2 ^ 32 }
-    requires within { All (λ c. c < length marks.now) numbers.old.items }
+    requires limit { seen.now.limit ≡ length flags.now }
+    requires few { length flags.now ≤ 2 ^ 32 }
+    requires within { All (λ c. c < length flags.now) numbers.old.items }
     ensures added { OnOk result (numbers.new.items
-        ≡ numbers.old.items ++ filter (λ c. slice_index_or marks.now c false) seen.now.items) }
-    ensures within { OnOk result (All (λ c. c < length marks.now) numbers.new.items) }
+        ≡ numbers.old.items ++ filter (λ c. slice_index_or flags.now c false) seen.now.items) }
+    ensures within { OnOk result (All (λ c. c < length flags.now) numbers.new.items) }
 {
     for index in 0..seen.len() {
         let class = seen.at(index);
-        if marks[class] {
+        if flags[class] {
             numbers.push(class as u32)?;
         }
     }

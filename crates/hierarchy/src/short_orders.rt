@@ -9,7 +9,7 @@ ghost use Rattle.hierarchy.specs.steps.InterfaceOrders.{AreShort, Gathers, TellF
 ghost use Rattle.hierarchy.specs.steps.Ascents.{KeepsRoom};
 
 use crate::ascent::Ascent;
-use crate::initialized_first::add_marked;
+use crate::initialized_first::add_flagged;
 use loading::family::Family;
 use loading::given::ClassNumbers;
 use std::alloc::{AllocError, Global};
@@ -112,7 +112,7 @@ fn list_of(
         return Ok(None);
     }
     let mut list = Vec::new(alloc);
-    add_marked(ascent.left(), first, &mut list)?;
+    add_flagged(ascent.left(), first, &mut list)?;
     Ok(Some(ClassNumbers::new(list)))
 }
 

@@ -71,14 +71,14 @@ impl Hierarchy {
         }
         match FewClasses::ancestors(self.family(), class) {
             Some(few) => few.has(other),
-            None => self.is_marked_above(class, other),
+            None => self.is_flagged_above(class, other),
         }
     }
 
-    /// Whether the second of two given classes stands above the first, by marks of all that does. It stands apart, as
-    /// its marks take 192 KB of the stack: a caller that has them in its own frame pays for them at each call.
+    /// Whether the second of two given classes stands above the first, by flags of all that does. It stands apart, as
+    /// its flags take 192 KB of the stack: a caller that has them in its own frame pays for them at each call.
     #[inline(never)]
-    fn is_marked_above(&self, class: u32, other: u32) -> bool
+    fn is_flagged_above(&self, class: u32, other: u32) -> bool
         ensures { result ≡ is_above self.now.family class other }
     {
         let _classes = self.family().classes();

@@ -1,3 +1,3 @@
 pub mod ListLemmas
 pub mod AddsLemmas
-pub mod MarksLemmas
+pub mod FlagsLemmas

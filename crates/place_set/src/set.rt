@@ -5,7 +5,7 @@ ghost use Rattle.std.specs.List.{Contains};
 ghost use Rattle.place_set.specs.declared.set.Place.{Place as Found};
 ghost use Rattle.place_set.specs.Distinct.{AreDistinct};
 ghost use Rattle.place_set.specs.steps.Adds.{Adds};
-ghost use Rattle.place_set.specs.steps.Marks.{rows_of, is_marked, marks_in, HasRoom, Sets};
+ghost use Rattle.place_set.specs.steps.Flags.{rows_of, is_flagged, flags_in, HasRoom, Sets};
 
 use std::alloc::{AllocError, Global};
 use std::marker::Model;
@@ -21,20 +21,20 @@ pub struct Place {
 #[derive(Drop)]
 pub struct PlaceSet {
     /// By row and index: whether the place is a member.
-    marks: Vec<Vec<bool>>,
+    flags: Vec<Vec<bool>>,
     places: Vec<Place>,
 }
 
 impl Model for PlaceSet {
     ghost use Rattle.std.specs.Prelude.{List};
     ghost use Rattle.place_set.specs.declared.set.Place.{Place};
-    ghost use Rattle.place_set.specs.steps.Marks.{AreMarks};
+    ghost use Rattle.place_set.specs.steps.Flags.{AreFlags};
 
     ghost Value = { List Place };
 
     ghost view = { λ s. s.places.items };
 
-    ghost invariant = { λ s. AreMarks s.marks.items s.places.items };
+    ghost invariant = { λ s. AreFlags s.flags.items s.places.items };
 }
 
 impl PlaceSet {
@@ -43,7 +43,7 @@ impl PlaceSet {
         ensures { result ≡ [] }
     {
         PlaceSet {
-            marks: Vec::new(alloc),
+            flags: Vec::new(alloc),
             places: Vec::new(alloc),
         }
     }
@@ -52,7 +52,7 @@ impl PlaceSet {
     pub fn has(&self, row: u32, index: u64) -> bool
         ensures { IsTrue result ↔ Contains self.now (record { row = row; index = index }) }
     {
-        is_marked(&self.marks, Place { row, index })
+        is_flagged(&self.flags, Place { row, index })
     }
 
     /// How many places it has.
@@ -85,57 +85,57 @@ impl PlaceSet {
     pub fn add(&mut self, alloc: Global, place: Place) -> Result<(), AllocError>
         ensures { OnOk result (Adds self.old (λ x. x ≡ place) self.new) }
     {
-        if is_marked(&self.marks, place) {
+        if is_flagged(&self.flags, place) {
             return Ok(());
         }
-        keep_room(alloc, &mut self.marks, place)?;
+        keep_room(alloc, &mut self.flags, place)?;
         self.places.push(place)?;
-        set_mark(&mut self.marks, place);
+        set_flag(&mut self.flags, place);
         Ok(())
     }
 }
 
-/// The marks of a row; none where no room was kept for them.
-fn marks_of(marks: &[Vec<bool>], row: usize) -> &[bool]
-    ensures { result.now ≡ slice_index_or (rows_of marks.now) row [] }
+/// The flags of a row; none where no room was kept for them.
+fn flags_of(flags: &[Vec<bool>], row: usize) -> &[bool]
+    ensures { result.now ≡ slice_index_or (rows_of flags.now) row [] }
 {
-    match marks.get(row) {
+    match flags.get(row) {
         Some(row) => row.as_slice(),
         None => &[],
     }
 }
 
-/// Whether a place is marked.
-fn is_marked(marks: &[Vec<bool>], place: Place) -> bool
-    ensures { result ≡ is_marked (rows_of marks.now) place }
+/// Whether a place is flagged.
+fn is_flagged(flags: &[Vec<bool>], place: Place) -> bool
+    ensures { result ≡ is_flagged (rows_of flags.now) place }
 {
-    mark_in(marks_of(marks, place.row as usize), place.index as usize)
+    flag_in(flags_of(flags, place.row as usize), place.index as usize)
 }
 
-/// The mark of an index; none past the end.
-fn mark_in(row: &[bool], index: usize) -> bool
-    ensures { result ≡ marks_in row.now index }
+/// The flag of an index; none past the end.
+fn flag_in(row: &[bool], index: usize) -> bool
+    ensures { result ≡ flags_in row.now index }
 {
     match row.get(index) {
-        Some(mark) => *mark,
+        Some(flag) => *flag,
         None => false,
     }
 }
 
-/// Keeps room for the marks of a row; nothing more is marked.
-fn keep_marks(alloc: Global, marks: &mut Vec<Vec<bool>>, row: u32) -> Result<(), AllocError>
-    ensures same { (x : Found) → is_marked (rows_of marks.new.items) x ≡ is_marked (rows_of marks.old.items) x }
-    ensures ok { OnOk result (row < length marks.new.items) }
+/// Keeps room for the flags of a row; nothing more is flagged.
+fn keep_flags(alloc: Global, flags: &mut Vec<Vec<bool>>, row: u32) -> Result<(), AllocError>
+    ensures same { (x : Found) → is_flagged (rows_of flags.new.items) x ≡ is_flagged (rows_of flags.old.items) x }
+    ensures ok { OnOk result (row < length flags.new.items) }
 {
-    while marks.len() <= row as usize {
-        marks.push(Vec::new(alloc))?;
+    while flags.len() <= row as usize {
+        flags.push(Vec::new(alloc))?;
     }
     Ok(())
 }
 
-/// Keeps room for the mark of an index; nothing more is marked.
+/// Keeps room for the flag of an index; nothing more is flagged.
 fn keep_index(row: &mut Vec<bool>, index: u64) -> Result<(), AllocError>
-    ensures same { (n : ℕ) → marks_in row.new.items n ≡ marks_in row.old.items n }
+    ensures same { (n : ℕ) → flags_in row.new.items n ≡ flags_in row.old.items n }
     ensures ok { OnOk result (index < length row.new.items) }
 {
     let Some(count) = (index as usize).checked_add(1) else {
@@ -147,21 +147,21 @@ fn keep_index(row: &mut Vec<bool>, index: u64) -> Result<(), AllocError>
     Ok(())
 }
 
-/// Keeps room for the mark of a place; nothing more is marked.
-fn keep_room(alloc: Global, marks: &mut Vec<Vec<bool>>, place: Place) -> Result<(), AllocError>
-    ensures same { (x : Found) → is_marked (rows_of marks.new.items) x ≡ is_marked (rows_of marks.old.items) x }
-    ensures ok { OnOk result (HasRoom (rows_of marks.new.items) place) }
+/// Keeps room for the flag of a place; nothing more is flagged.
+fn keep_room(alloc: Global, flags: &mut Vec<Vec<bool>>, place: Place) -> Result<(), AllocError>
+    ensures same { (x : Found) → is_flagged (rows_of flags.new.items) x ≡ is_flagged (rows_of flags.old.items) x }
+    ensures ok { OnOk result (HasRoom (rows_of flags.new.items) place) }
 {
-    keep_marks(alloc, marks, place.row)?;
-    let row = &mut marks[place.row as usize];
+    keep_flags(alloc, flags, place.row)?;
+    let row = &mut flags[place.row as usize];
     keep_index(row, place.index)
 }
 
-/// Marks a place that has room.
-fn set_mark(marks: &mut Vec<Vec<bool>>, place: Place)
-    requires { HasRoom (rows_of marks.old.items) place }
-    ensures { Sets (rows_of marks.old.items) place (rows_of marks.new.items) }
+/// Flags a place that has room.
+fn set_flag(flags: &mut Vec<Vec<bool>>, place: Place)
+    requires { HasRoom (rows_of flags.old.items) place }
+    ensures { Sets (rows_of flags.old.items) place (rows_of flags.new.items) }
 {
-    let row = &mut marks[place.row as usize];
+    let row = &mut flags[place.row as usize];
     row[place.index as usize] = true;
 }

@@ -38,7 +38,7 @@ only_of found.Several = None
 abbrev pub classes_of : Above → List ℕ
 classes_of (above.Walked ancestors) = ancestors.now.items
 classes_of (above.Few few) = few.now
-classes_of (above.Marked marked) = marked.now
+classes_of (above.Flagged flagged) = flagged.now
 
 -- ---- methods of interfaces
 

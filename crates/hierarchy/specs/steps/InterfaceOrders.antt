@@ -13,10 +13,10 @@ pub record AddsInterfaces (family : Family) (is old new : List ℕ) : Type 0 whe
   pub stand : SuperinterfacesFirst family is all
   pub kept : new ≡ old ++ filter (is_initialized_first family) (firsts all)
 
--- Marks that tell of each class whether it is initialized first.
-pub record TellFirst (family : Family) (marks : List Bool) : Type 0 where
-  pub count : length marks ≡ length family
-  pub tell : (i : ℕ) → i < length marks → slice_index_or marks i false ≡ is_initialized_first family i
+-- Flags that tell of each class whether it is initialized first.
+pub record TellFirst (family : Family) (flags : List Bool) : Type 0 where
+  pub count : length flags ≡ length family
+  pub tell : (i : ℕ) → i < length flags → slice_index_or flags i false ≡ is_initialized_first family i
 
 -- A list has, of some classes and those above them, those that declare a default method, each once and after its own
 -- parents; what else it has does not matter.

@@ -5,7 +5,7 @@ use Rattle.loading.specs.Families.{interfaces_in}
 use Rattle.hierarchy.specs.Initialization.{is_initialized_first}
 use Rattle.hierarchy.specs.Search.{firsts}
 use Rattle.hierarchy.specs.steps.InterfaceOrders.{Gathers}
-use Rattle.hierarchy.proofs.GatheredLemmas.{gathers_own, gathers_marked}
+use Rattle.hierarchy.proofs.GatheredLemmas.{gathers_own, gathers_flagged}
 use Rattle.hierarchy.proofs.short_orders.list_of.Goals as goal
 use Rattle.hierarchy.proofs.short_orders.list_of.Goals.{then-first-class+in_ok-leave_all, else-first-class}
 
@@ -31,12 +31,12 @@ returns-clause-gathered c list is =
           (ap (λ v. v.left.items) w.ascent-is ∙ c.in_ok-gather.ensures.once whole ∙ ap firsts (sym (append-nil seen)))
     ] in
     let kept : c.new.result ≡ [] ++ filter (λ i. get_or c.args.first.now i false) left =
-    c.new.ensures ∙ c.in_ok-add_marked.ensures.added
+    c.new.ensures ∙ c.in_ok-add_flagged.ensures.added
     ∙ ap (λ (xs : List ℕ). xs ++ filter (λ i. get_or c.args.first.now i false) c.left-2.result.now.items)
     c.new-list.ensures.items
     ∙ ap (λ s. filter (λ i. get_or c.args.first.now i false) s.items) c.left-2.ensures in
     subst (λ (xs : List ℕ). Gathers family (class ∷ []) xs) (same c.new.result list is)
-    (gathers_marked family (class ∷ []) left c.new.result c.args.first.now
+    (gathers_flagged family (class ∷ []) left c.new.result c.args.first.now
     c.requires.first own kept)
   where
     same : (xs ys : List ℕ) → Some xs ≡ Some ys → xs ≡ ys

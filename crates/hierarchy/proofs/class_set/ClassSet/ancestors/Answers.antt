@@ -9,6 +9,6 @@ returns-clause-members c =
     let family = c.args.family.now in
     let first = c.add_parents.new.self in
     above_parents family c.args.class first c.add_above.new.self
-    (subst (λ (old : List ℕ). Adds old (parents_in family c.args.class) first) c.none-marked.ensures
+    (subst (λ (old : List ℕ). Adds old (parents_in family c.args.class) first) c.none-flagged.ensures
     c.add_parents.ensures.adds)
     c.add_above.ensures

@@ -2,7 +2,7 @@ use Rattle.std.proofs.Common.{◌∙◌, ℕ, List, sym, ap, subst}
 use Rattle.std.specs.List.{Contains}
 use Rattle.loading.specs.Families.{Family, IsFamily, AreParentsWithin, interfaces_in}
 use Rattle.hierarchy.proofs.FirstsLemmas.{has_tells}
-use Rattle.hierarchy.proofs.SubtypesLemmas.{interface_is_above, mark_is_above}
+use Rattle.hierarchy.proofs.SubtypesLemmas.{interface_is_above, flag_is_above}
 use Rattle.hierarchy.proofs.hierarchy.Hierarchy.is_interface_above.Goals as goal
 
 pub returns-then-contains : goal.returns-then-contains
@@ -20,5 +20,5 @@ returns-in-Some c =
     let family = c.args.self.now.family in
     let fits = subst IsFamily c.family.ensures c.classes-classes.ensures.fits in
     let within = subst (λ (f : Family). AreParentsWithin f) c.family.ensures c.classes-classes.ensures.within in
-    mark_is_above family c.args.class c.args.other c.in-Some.few c.has.result fits within c.has.ensures
+    flag_is_above family c.args.class c.args.other c.in-Some.few c.has.result fits within c.has.ensures
     (rw c.family-3.ensures at c.in-Some.ensures)
