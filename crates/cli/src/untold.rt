@@ -188,12 +188,13 @@ fn parents_text(alloc: Global, classes: &[ClassFile]) -> Result<String, AllocErr
         add_parents(&mut known, class)?;
     }
     let mut text = String::from_str(alloc, "no class file is given of")?;
-    let mut before = " ";
+    let mut is_first = true;
     for (name, is_given) in &known {
         if !*is_given {
             let name = printed(alloc, name)?;
+            let before = if is_first { " " } else { ", " };
             write!(text, "{before}{name}")?;
-            before = ", ";
+            is_first = false;
         }
     }
     Ok(text)
