@@ -1,0 +1,231 @@
+//! What a refusal means, where that takes what the words of the command name: class files and what these hold, entries,
+//! lists.
+ghost use Rattle.std.specs.Prelude.{◌≡◌};
+
+use crate::class_files::class_files;
+use crate::files::contents;
+use crate::meanings::Untold;
+use crate::{CommandFault, Files, Request};
+use built_in::class_id::BuiltIn;
+use classfile::{ClassFile, printed};
+use std::alloc::{AllocError, Global};
+use std::collections::BTreeMap;
+use std::io::Write;
+
+/// What is wrong with a class that a list names.
+const DEMANDED: &str = "it has to be initialized at build time, and can't be";
+
+/// Tells what was left to be told of a refusal, by what the words name. It changes no file.
+pub(crate) fn tell_untold<F: Files, E: Write>(
+    alloc: Global,
+    untold: &Untold,
+    request: &Request<'_>,
+    files: &mut F,
+    errors: &mut E,
+)
+    ensures { F.holds files.new ≡ F.holds files.old }
+{
+    match untold {
+        Untold::Class(place, meaning) => {
+            let file = request.files().get(*place).copied();
+            let file = file.unwrap_or("a class file");
+            tell_line(file, *meaning, errors);
+        }
+        Untold::Entry(place, meaning) => {
+            let entry = entry_in(request, *place);
+            tell_line(entry, *meaning, errors);
+        }
+        Untold::List(text) => {
+            let build_time = build_time_of(request);
+            let build_time = build_time.unwrap_or("");
+            let (name, meaning) = list_meaning(alloc, text.as_str(), build_time);
+            tell_line(name, meaning, errors);
+        }
+        Untold::Parents | Untold::Twice(_) => {
+            tell_of_classes(alloc, untold, request.files(), files, errors);
+        }
+    }
+}
+
+/// Tells what is wrong with what has a name. A failure of standard error is ignored.
+fn tell_line<E: Write>(name: &str, meaning: &str, errors: &mut E) {
+    let _ = writeln!(errors, "{name}: {meaning}");
+    let _ = errors.flush();
+}
+
+/// The entry of a place, as it was written; an empty one as two quotes.
+fn entry_in<'a>(request: &Request<'a>, place: usize) -> &'a str {
+    let entries = match request {
+        Request::Audit(words) => words.entries,
+        Request::Explain(words) => return words.class,
+        Request::Lazy(words) => words.entries,
+        Request::Replay(words) => words.entries,
+        Request::Run(words) => words.entries,
+        Request::Build(_) | Request::Renew(_) | Request::Report(_) => "",
+    };
+    match entries.split(',').nth(place) {
+        Some(entry) if !entry.is_empty() => entry,
+        _ => "''",
+    }
+}
+
+/// The list of what is to be initialized at build time.
+fn build_time_of<'a>(request: &Request<'a>) -> Option<&'a str> {
+    match request {
+        Request::Build(words) => words.building.build_time,
+        Request::Explain(words) => words.building.build_time,
+        Request::Report(words) => words.build_time,
+        Request::Audit(_)
+        | Request::Lazy(_)
+        | Request::Renew(_)
+        | Request::Replay(_)
+        | Request::Run(_) => None,
+    }
+}
+
+/// What is wrong with a list of classes, by the text that says so: of which place or name, and what.
+fn list_meaning<'a>(alloc: Global, text: &'a str, build_time: &str) -> (&'a str, &'static str) {
+    let (word, about) = text.split_once(' ').unwrap_or((text, ""));
+    let meaning = match word {
+        "Empty" => "the item of this place in a list, from 0, is empty; take out a comma",
+        "Unknown" =>
+            "no class that is given has this name, or is in this package; write it with dots",
+        "Both" => "both lists ask for it; subclasses count at run time, superclasses at build time",
+        _ => {
+            let (class, _) = about.split_once(' ').unwrap_or((about, ""));
+            return (
+                class,
+                demand_meaning(alloc, class, build_time).unwrap_or(DEMANDED),
+            );
+        }
+    };
+    (about, meaning)
+}
+
+/// What is wrong with the demand of a list for a class: it may be one above what the list names.
+fn demand_meaning(alloc: Global, class: &str, list: &str) -> Result<&'static str, AllocError> {
+    let list = list.replace(alloc, ".", "/")?;
+    for item in list.as_str().split(',') {
+        if let Some(rest) = class.strip_prefix(item)
+            && (rest.is_empty() || rest.starts_with('/'))
+        {
+            return Ok(DEMANDED);
+        }
+    }
+    Ok("it is a superclass of what has to be initialized at build time, and can't be")
+}
+
+/// Tells what class files, which are read once more, say of a refusal.
+fn tell_of_classes<F: Files, E: Write>(
+    alloc: Global,
+    untold: &Untold,
+    names: &[&str],
+    files: &mut F,
+    errors: &mut E,
+)
+    ensures { F.holds files.new ≡ F.holds files.old }
+{
+    let text = match read_again(alloc, names, files) {
+        Ok(classes) => said_by(alloc, untold, names, classes.as_slice()),
+        Err(_) => Err(AllocError),
+    };
+    // A failure of standard error is ignored.
+    let _ = match text {
+        Ok(text) => writeln!(errors, "{text}"),
+        Err(_) => writeln!(errors, "a class file is missing, or two are of one class"),
+    };
+    let _ = errors.flush();
+}
+
+/// What class files of these names say of a refusal.
+fn said_by(
+    alloc: Global,
+    untold: &Untold,
+    names: &[&str],
+    classes: &[ClassFile],
+) -> Result<String, AllocError> {
+    match untold {
+        Untold::Twice(class) => files_text(alloc, class.as_str(), names, classes),
+        _ => parents_text(alloc, classes),
+    }
+}
+
+/// The class files of these names.
+fn read_again<F: Files>(
+    alloc: Global,
+    names: &[&str],
+    files: &mut F,
+) -> Result<Vec<ClassFile>, CommandFault>
+    ensures { F.holds files.new ≡ F.holds files.old }
+{
+    let texts = contents(alloc, names, files, usize::MAX)?;
+    class_files(alloc, texts.as_slice())
+}
+
+/// Which files are of a class, by its name as it is printed.
+fn files_text(
+    alloc: Global,
+    class: &str,
+    names: &[&str],
+    classes: &[ClassFile],
+) -> Result<String, AllocError> {
+    let mut text = String::new(alloc);
+    for (name, file) in names.iter().zip(classes) {
+        let named = file.class_name(file.this_class()).unwrap_or(&[]);
+        if printed(alloc, named)?.as_str() == class {
+            let before = if text.is_empty() { "" } else { " and " };
+            write!(text, "{before}{name}")?;
+        }
+    }
+    text.push_str(" are of this class")?;
+    Ok(text)
+}
+
+/// Which parents of classes are neither among these nor built in, each once, in the order of their names.
+fn parents_text(alloc: Global, classes: &[ClassFile]) -> Result<String, AllocError> {
+    let mut known = given_names(alloc, classes)?;
+    for class in classes {
+        add_parents(&mut known, class)?;
+    }
+    let mut text = String::from_str(alloc, "no class file is given of")?;
+    let mut before = " ";
+    for (name, is_given) in &known {
+        if !*is_given {
+            let name = printed(alloc, name)?;
+            write!(text, "{before}{name}")?;
+            before = ", ";
+        }
+    }
+    Ok(text)
+}
+
+/// The names of classes, which are given.
+fn given_names<'a>(
+    alloc: Global,
+    classes: &'a [ClassFile],
+) -> Result<BTreeMap<&'a [u8], bool>, AllocError> {
+    let mut names = BTreeMap::new(alloc);
+    for class in classes {
+        if let Some(name) = class.class_name(class.this_class()) {
+            names.insert(name, true)?;
+        }
+    }
+    Ok(names)
+}
+
+/// Adds the parents of a class that are neither known nor built in. They are not given.
+fn add_parents<'a>(
+    known: &mut BTreeMap<&'a [u8], bool>,
+    class: &'a ClassFile,
+) -> Result<(), AllocError> {
+    let superclass = [class.super_class()];
+    for constant in superclass.iter().chain(class.interfaces()) {
+        if let Some(name) = class.class_name(*constant)
+            && BuiltIn::named(name).is_none()
+            && !known.contains_key(&name)
+        {
+            known.insert(name, false)?;
+        }
+    }
+    Ok(())
+}
