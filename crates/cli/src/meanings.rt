@@ -3,7 +3,7 @@
 //! Standard error is a trait, so that no function that tells something has the parts of a `Voice` among its locals.
 
 use crate::{CommandFault, Request};
-use classfile::{ClassFault, ClassName};
+use classfile::ClassFault;
 use init_engine::EntryFault;
 use loading::fault::{BadParent, LinkFault};
 use std::alloc::Global;
@@ -33,13 +33,19 @@ pub(crate) trait Errors {
     fn wrong(&mut self, text: &str);
 }
 
-/// What is left to be told of a refusal, since it takes the names of the class files.
+/// What is left to be told of a refusal, since it takes what the words name.
 #[derive(Drop)]
 pub(crate) enum Untold {
     /// The class file of this place, and what is wrong with it.
     Class(usize, &'static str),
-    /// The class of this name, as it is printed, lacks a parent.
-    Child(String),
+    /// The entry of this place, and what is wrong with it.
+    Entry(usize, &'static str),
+    /// A list of classes is wrong, as this text says.
+    List(String),
+    /// A class lacks a parent.
+    Parents,
+    /// Two class files are of the class of this name, as it is printed.
+    Twice(String),
 }
 
 /// A standard error, and whether refusals are explained there.
@@ -129,30 +135,58 @@ fn range_in(text: &str) -> Option<&'static str> {
     }
 }
 
-/// What takes the names of the class files to be told of a refusal. None where memory for it is refused.
+/// What takes the names in the words to be told of a refusal. None where memory for it is refused.
 fn left_untold(alloc: Global, refusal: &CommandFault) -> Option<Untold> {
     match refusal {
         CommandFault::Class(place, fault) => Some(Untold::Class(*place, class_meaning(fault))),
-        CommandFault::Link(LinkFault::Parent { name, kind }) => match kind {
-            BadParent::UnknownSuperclass | BadParent::UnknownInterface => untold_child(alloc, name),
+        CommandFault::Entry(fault) => match fault {
+            EntryFault::Unknown { entry } | EntryFault::NoMain { entry } => {
+                Some(Untold::Entry(*entry, entry_meaning(fault)))
+            }
+            _ => None,
+        },
+        CommandFault::Link(fault) => left_of_link(alloc, fault),
+        CommandFault::Option(text) => match String::from_str(alloc, text.as_str()) {
+            Ok(text) => Some(Untold::List(text)),
+            Err(_) => None,
+        },
+        _ => None,
+    }
+}
+
+/// What takes the names of the class files to be told of a fault of linking.
+fn left_of_link(alloc: Global, fault: &LinkFault) -> Option<Untold> {
+    match fault {
+        LinkFault::Twice { name } => match name.to_string(alloc) {
+            Ok(name) => Some(Untold::Twice(name)),
+            Err(_) => None,
+        },
+        LinkFault::Parent { kind, .. } => match kind {
+            BadParent::UnknownSuperclass | BadParent::UnknownInterface => Some(Untold::Parents),
             _ => None,
         },
         _ => None,
     }
 }
 
-/// A class that lacks a parent.
-fn untold_child(alloc: Global, name: &ClassName) -> Option<Untold> {
-    match name.to_string(alloc) {
-        Ok(name) => Some(Untold::Child(name)),
-        Err(_) => None,
+/// What is wrong with the name of a file, where that can't be seen.
+fn oddity_of(name: &str) -> Option<&'static str> {
+    if name.starts_with('\u{FEFF}') {
+        Some("a byte order mark stands before this name; write the list without one")
+    } else if name.contains('\0') {
+        Some("this name has a byte 0, which no name of a file has")
+    } else {
+        None
     }
 }
 
 /// Writes what a refusal means, as a line.
 fn write_meaning<E: Write>(errors: &mut E, refusal: &CommandFault) -> io::Result<()> {
     match refusal {
-        CommandFault::File(name, cause) => writeln!(errors, "{name}: {cause}"),
+        CommandFault::File(name, cause) => match oddity_of(name) {
+            Some(oddity) => writeln!(errors, "{name}: {oddity}"),
+            None => writeln!(errors, "{name}: {cause}"),
+        },
         CommandFault::List(name) => writeln!(errors, "{name}: it is a list that is not UTF-8"),
         _ => {
             let meaning = meaning(refusal);
@@ -168,9 +202,7 @@ fn meaning(refusal: &CommandFault) -> &'static str {
         CommandFault::Link(fault) => link_meaning(fault),
         CommandFault::Image(_) => "the file is no image, or was changed: build it again",
         CommandFault::Entry(fault) => entry_meaning(fault),
-        CommandFault::Option(_) => {
-            "an item of a list is empty or names no class, or a class can't be what it asks for"
-        }
+        CommandFault::Option(_) => "a list of classes is wrong",
         CommandFault::Budget => BUDGETS,
         CommandFault::Wave(_) => WORKERS,
         CommandFault::Text(_) => "a line of a journal is a thread, one space and a number of steps",
@@ -219,7 +251,9 @@ fn parent_meaning(kind: BadParent) -> &'static str {
 fn entry_meaning(fault: &EntryFault) -> &'static str {
     match fault {
         EntryFault::Memory => "the system gave no more memory",
-        EntryFault::Unknown { .. } => "no class file is of the class of this place in the list",
+        EntryFault::Unknown { .. } => {
+            "no class that is given has this name; write it with dots and packages"
+        }
         EntryFault::NoMain { .. } => "the class itself declares no static main(String[])",
         EntryFault::Count => "there are 1 to 64 entries",
     }

@@ -301,7 +301,7 @@ fn do_and_tell<
     let mut voice = Voice::of(alloc, request, errors);
     let (status, held, out) = do_request(rt, alloc, request, files, out, &mut voice, watch);
     if let Some(untold) = voice.into_untold() {
-        tell_untold(alloc, &untold, request.files(), files, errors);
+        tell_untold(alloc, &untold, request, files, errors);
     }
     (status, held, out)
 }

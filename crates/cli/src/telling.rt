@@ -226,19 +226,13 @@ pub(crate) fn tell_overwritten<E: Write>(clash: Clash<'_>, errors: &mut E) -> St
     Status::Words
 }
 
-/// Tells on standard error that a build has no class files, if so.
+/// Tells on standard error that a command of class files has none, if so.
 pub(crate) fn tell_no_files<E: Write>(request: &Request<'_>, errors: &mut E) {
-    let has_none = match request {
-        Request::Build(words) => words.building.files.is_empty(),
-        Request::Explain(words) => words.building.files.is_empty(),
-        Request::Report(words) => words.files.is_empty(),
-        Request::Audit(_)
-        | Request::Lazy(_)
-        | Request::Renew(_)
-        | Request::Replay(_)
-        | Request::Run(_) => false,
-    };
-    if has_none {
+    let takes_none = matches!(
+        request,
+        Request::Renew(_) | Request::Replay(_) | Request::Run(_)
+    );
+    if !takes_none && request.files().is_empty() {
         // A failure of standard error is ignored.
         let _ = writeln!(errors, "note: no FILE is given, so there are no classes");
         let _ = errors.flush();

@@ -1,18 +1,122 @@
-//! The words on a refusal that take the names of the class files, and what these hold: the parent that a class lacks.
+//! What a refusal means, where that takes what the words of the command name: class files and what these hold, entries,
+//! lists.
 ghost use Rattle.std.specs.Prelude.{◌≡◌};
 
 use crate::class_files::class_files;
 use crate::files::contents;
 use crate::meanings::Untold;
-use crate::{CommandFault, Files};
+use crate::{CommandFault, Files, Request};
 use built_in::class_id::BuiltIn;
-use classfile::{ClassFile, ClassName, printed};
+use classfile::{ClassFile, printed};
 use std::alloc::{AllocError, Global};
-use std::collections::BTreeSet;
+use std::collections::BTreeMap;
 use std::io::Write;
 
-/// Tells what was left to be told of a refusal, by the names of the class files. It changes no file.
+/// What is wrong with a class that a list names.
+const DEMANDED: &str = "it has to be initialized at build time, and can't be";
+
+/// Tells what was left to be told of a refusal, by what the words name. It changes no file.
 pub(crate) fn tell_untold<F: Files, E: Write>(
+    alloc: Global,
+    untold: &Untold,
+    request: &Request<'_>,
+    files: &mut F,
+    errors: &mut E,
+)
+    ensures { F.holds files.new ≡ F.holds files.old }
+{
+    match untold {
+        Untold::Class(place, meaning) => {
+            let file = request.files().get(*place).copied();
+            let file = file.unwrap_or("a class file");
+            tell_line(file, *meaning, errors);
+        }
+        Untold::Entry(place, meaning) => {
+            let entry = entry_in(request, *place);
+            tell_line(entry, *meaning, errors);
+        }
+        Untold::List(text) => {
+            let build_time = build_time_of(request);
+            let build_time = build_time.unwrap_or("");
+            let (name, meaning) = list_meaning(alloc, text.as_str(), build_time);
+            tell_line(name, meaning, errors);
+        }
+        Untold::Parents | Untold::Twice(_) => {
+            tell_of_classes(alloc, untold, request.files(), files, errors);
+        }
+    }
+}
+
+/// Tells what is wrong with what has a name. A failure of standard error is ignored.
+fn tell_line<E: Write>(name: &str, meaning: &str, errors: &mut E) {
+    let _ = writeln!(errors, "{name}: {meaning}");
+    let _ = errors.flush();
+}
+
+/// The entry of a place, as it was written; an empty one as two quotes.
+fn entry_in<'a>(request: &Request<'a>, place: usize) -> &'a str {
+    let entries = match request {
+        Request::Audit(words) => words.entries,
+        Request::Explain(words) => return words.class,
+        Request::Lazy(words) => words.entries,
+        Request::Replay(words) => words.entries,
+        Request::Run(words) => words.entries,
+        Request::Build(_) | Request::Renew(_) | Request::Report(_) => "",
+    };
+    match entries.split(',').nth(place) {
+        Some(entry) if !entry.is_empty() => entry,
+        _ => "''",
+    }
+}
+
+/// The list of what is to be initialized at build time.
+fn build_time_of<'a>(request: &Request<'a>) -> Option<&'a str> {
+    match request {
+        Request::Build(words) => words.building.build_time,
+        Request::Explain(words) => words.building.build_time,
+        Request::Report(words) => words.build_time,
+        Request::Audit(_)
+        | Request::Lazy(_)
+        | Request::Renew(_)
+        | Request::Replay(_)
+        | Request::Run(_) => None,
+    }
+}
+
+/// What is wrong with a list of classes, by the text that says so: of which place or name, and what.
+fn list_meaning<'a>(alloc: Global, text: &'a str, build_time: &str) -> (&'a str, &'static str) {
+    let (word, about) = text.split_once(' ').unwrap_or((text, ""));
+    let meaning = match word {
+        "Empty" => "the item of this place in a list, from 0, is empty; take out a comma",
+        "Unknown" =>
+            "no class that is given has this name, or is in this package; write it with dots",
+        "Both" => "both lists ask for it; subclasses count at run time, superclasses at build time",
+        _ => {
+            let (class, _) = about.split_once(' ').unwrap_or((about, ""));
+            return (
+                class,
+                demand_meaning(alloc, class, build_time).unwrap_or(DEMANDED),
+            );
+        }
+    };
+    (about, meaning)
+}
+
+/// What is wrong with the demand of a list for a class: it may be one above what the list names.
+fn demand_meaning(alloc: Global, class: &str, list: &str) -> Result<&'static str, AllocError> {
+    let list = list.replace(alloc, ".", "/")?;
+    for item in list.as_str().split(',') {
+        if let Some(rest) = class.strip_prefix(item)
+            && (rest.is_empty() || rest.starts_with('/'))
+        {
+            return Ok(DEMANDED);
+        }
+    }
+    Ok("it is a superclass of what has to be initialized at build time, and can't be")
+}
+
+/// Tells what class files, which are read once more, say of a refusal.
+fn tell_of_classes<F: Files, E: Write>(
     alloc: Global,
     untold: &Untold,
     names: &[&str],
@@ -21,37 +125,29 @@ pub(crate) fn tell_untold<F: Files, E: Write>(
 )
     ensures { F.holds files.new ≡ F.holds files.old }
 {
-    match untold {
-        Untold::Class(place, meaning) => {
-            let file = names.get(*place).copied().unwrap_or("a class file");
-            // A failure of standard error is ignored.
-            let _ = writeln!(errors, "{file}: {meaning}");
-            let _ = errors.flush();
-        }
-        Untold::Child(child) => tell_parent(alloc, child.as_str(), names, files, errors),
-    }
-}
-
-/// Tells which parent of a class is missing among class files, which are read once more.
-fn tell_parent<F: Files, E: Write>(
-    alloc: Global,
-    child: &str,
-    names: &[&str],
-    files: &mut F,
-    errors: &mut E,
-)
-    ensures { F.holds files.new ≡ F.holds files.old }
-{
-    let parent = match read_again(alloc, names, files) {
-        Ok(classes) => parent_text(alloc, child, classes.as_slice()),
+    let text = match read_again(alloc, names, files) {
+        Ok(classes) => said_by(alloc, untold, names, classes.as_slice()),
         Err(_) => Err(AllocError),
     };
     // A failure of standard error is ignored.
-    let _ = match parent {
-        Ok(Some(parent)) => writeln!(errors, "no class file of its {parent} is given"),
-        _ => writeln!(errors, "no class file of a parent of it is given"),
+    let _ = match text {
+        Ok(text) => writeln!(errors, "{text}"),
+        Err(_) => writeln!(errors, "a class file is missing, or two are of one class"),
     };
     let _ = errors.flush();
+}
+
+/// What class files of these names say of a refusal.
+fn said_by(
+    alloc: Global,
+    untold: &Untold,
+    names: &[&str],
+    classes: &[ClassFile],
+) -> Result<String, AllocError> {
+    match untold {
+        Untold::Twice(class) => files_text(alloc, class.as_str(), names, classes),
+        _ => parents_text(alloc, classes),
+    }
 }
 
 /// The class files of these names.
@@ -66,73 +162,70 @@ fn read_again<F: Files>(
     class_files(alloc, texts.as_slice())
 }
 
-/// The first parent of a class that is neither among these nor built in: what it is of it, and its name.
-fn parent_text(
+/// Which files are of a class, by its name as it is printed.
+fn files_text(
     alloc: Global,
-    child: &str,
+    class: &str,
+    names: &[&str],
     classes: &[ClassFile],
-) -> Result<Option<String>, AllocError> {
-    let name = ClassName::from_text(alloc, child)?;
-    let name = name.modified_utf8(alloc)?;
-    let Some(class) = class_named(classes, name.bytes()) else {
-        return Ok(None);
-    };
-    let names = names_of(alloc, classes)?;
-    match missing_parent(class, &names) {
-        Some((what, parent)) => {
-            let parent = printed(alloc, parent)?;
-            Ok(Some(format!(in alloc; "{what} {parent}")?))
+) -> Result<String, AllocError> {
+    let mut text = String::new(alloc);
+    for (name, file) in names.iter().zip(classes) {
+        let named = file.class_name(file.this_class()).unwrap_or(&[]);
+        if printed(alloc, named)?.as_str() == class {
+            let before = if text.is_empty() { "" } else { " and " };
+            write!(text, "{before}{name}")?;
         }
-        None => Ok(None),
     }
+    text.push_str(" are of this class")?;
+    Ok(text)
 }
 
-/// The names of classes.
-fn names_of<'a>(alloc: Global, classes: &'a [ClassFile]) -> Result<BTreeSet<&'a [u8]>, AllocError> {
-    let mut names = BTreeSet::new(alloc);
+/// Which parents of classes are neither among these nor built in, each once, in the order of their names.
+fn parents_text(alloc: Global, classes: &[ClassFile]) -> Result<String, AllocError> {
+    let mut known = given_names(alloc, classes)?;
+    for class in classes {
+        add_parents(&mut known, class)?;
+    }
+    let mut text = String::from_str(alloc, "no class file is given of")?;
+    let mut before = " ";
+    for (name, is_given) in &known {
+        if !*is_given {
+            let name = printed(alloc, name)?;
+            write!(text, "{before}{name}")?;
+            before = ", ";
+        }
+    }
+    Ok(text)
+}
+
+/// The names of classes, which are given.
+fn given_names<'a>(
+    alloc: Global,
+    classes: &'a [ClassFile],
+) -> Result<BTreeMap<&'a [u8], bool>, AllocError> {
+    let mut names = BTreeMap::new(alloc);
     for class in classes {
         if let Some(name) = class.class_name(class.this_class()) {
-            names.insert(name)?;
+            names.insert(name, true)?;
         }
     }
     Ok(names)
 }
 
-/// The superclass of a class, or else the first of its superinterfaces, that is neither of these names nor built in.
-fn missing_parent<'a>(
+/// Adds the parents of a class that are neither known nor built in. They are not given.
+fn add_parents<'a>(
+    known: &mut BTreeMap<&'a [u8], bool>,
     class: &'a ClassFile,
-    names: &BTreeSet<&'a [u8]>,
-) -> Option<(&'static str, &'a [u8])> {
-    if let Some(parent) = missing(class, class.super_class(), names) {
-        return Some(("superclass", parent));
-    }
-    for interface in class.interfaces() {
-        if let Some(parent) = missing(class, *interface, names) {
-            return Some(("interface", parent));
+) -> Result<(), AllocError> {
+    let superclass = [class.super_class()];
+    for constant in superclass.iter().chain(class.interfaces()) {
+        if let Some(name) = class.class_name(*constant)
+            && BuiltIn::named(name).is_none()
+            && !known.contains_key(&name)
+        {
+            known.insert(name, false)?;
         }
     }
-    None
-}
-
-/// The name that a constant of a class names, where it is neither of these names nor built in.
-fn missing<'a>(
-    class: &'a ClassFile,
-    constant: u16,
-    names: &BTreeSet<&'a [u8]>,
-) -> Option<&'a [u8]> {
-    let name = class.class_name(constant)?;
-    if BuiltIn::named(name).is_some() || names.contains(&name) {
-        return None;
-    }
-    Some(name)
-}
-
-/// The class of a name.
-fn class_named<'a>(classes: &'a [ClassFile], name: &[u8]) -> Option<&'a ClassFile> {
-    for class in classes {
-        if class.class_name(class.this_class()) == Some(name) {
-            return Some(class);
-        }
-    }
-    None
+    Ok(())
 }

@@ -178,15 +178,15 @@ const RUN_IMAGE: Argument = Argument::Word {
 };
 
 const BUILT_FILES: Argument = Argument::Files {
-    help: "The class files, in any order; '@LIST' for those that LIST names, one a line",
+    help: "The class files, in any order; '@NAMES' for those that NAMES names, one a line",
 };
 
 const AUDITED_FILES: Argument = Argument::Files {
-    help: "The class files to look at, in any order; '@LIST' for those that LIST names, one a line",
+    help: "The class files to look at, in any order; '@NAMES' for those that NAMES names, one a line",
 };
 
 const RUN_FILES: Argument = Argument::Files {
-    help: "The class files to run, in any order; '@LIST' for those that LIST names, one a line",
+    help: "The class files to run, in any order; '@NAMES' for those that NAMES names, one a line",
 };
 
 const BUILD_TIME: Argument = Argument::Text {

@@ -15,7 +15,8 @@ Exit status:
      has not ended
   6  all threads ended, and not all of them returned
 
-A refusal is one line on standard error, 'preinit: ' and its name. With --verbose another says what it means.";
+A refusal is one line on standard error, 'preinit: ' and its name. With --verbose, after the command's name, another
+says what it means.";
 
 pub(crate) const BUILD_ABOUT: &str = "\
 Makes an image of class files, in which classes are initialized already";
