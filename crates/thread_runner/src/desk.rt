@@ -1,4 +1,4 @@
-//! The desk of a run of threads: what lies under its lock.
+//! The desk of a run of threads: its book, and the sink.
 
 ghost use Rattle.std.specs.Prelude.{◌≡◌, ◌≢◌, ◌<◌, ◌≤◌, ◌++◌, ℕ, List, Some, None, true, false, IfSome, IfOk};
 ghost use Rattle.std.specs.Prelude.{length, take};
@@ -15,9 +15,6 @@ ghost use Rattle.thread_runner.specs.steps.Verdicts.{IsVerdict};
 
 use crate::answer::{Ended, RunFault, end_with};
 use crate::book::Book;
-use crate::done_set::DoneSet;
-use crate::front::{FrontRun, FrontStretch};
-use crate::history::Commit;
 use crate::origin::Origin;
 use init_engine::Rest;
 use journal::Journal;
@@ -25,7 +22,6 @@ use program::Program;
 use sinks::{Sink, SinkFault};
 use std::alloc::{AllocError, Global};
 use std::marker::Brand;
-use vm_state::frame::Frame;
 
 /// What the sink of a run had got before, how often it had failed, and the limit of steps. Each call of a run picks
 /// them.
@@ -60,28 +56,15 @@ pub(crate) enum Next {
     Sleep,
     /// It ends.
     Leave,
+    /// It ends, and the run with it.
+    End,
 }
 
-/// What a thread takes along from under the lock: its innermost frame, if there is one, and the classes that are
-/// initialized, if it asked for them.
-#[derive(Drop)]
-pub(crate) struct Front {
-    pub frame: Option<Frame>,
-    pub done: Option<DoneSet>,
-}
-
-/// The book, the sink that got the first bytes of what was printed, and how the run stands.
+/// The book, and the sink that got the first bytes of what was printed.
 #[derive(Drop)]
 pub(crate) struct Desk<O: Session, S: Sink> {
     pub(crate) book: Book<O>,
     pub(crate) sink: S,
-    pub(crate) moves: u64,
-    /// How many threads sleep until another one has moved.
-    pub(crate) sleepers: u32,
-    /// The last thread goes on alone: nobody asks its gate.
-    pub(crate) open: bool,
-    pub(crate) over: bool,
-    pub(crate) memory: bool,
     pub(crate) failed: bool,
     ghost sent: { (bs : List ℕ) → O.before ≡ Some bs
         → S.got sink ≡ Some (bs ++ take book.sent (printed_text book)) } by { Prim.hlevel props },
@@ -94,7 +77,7 @@ pub(crate) struct Desk<O: Session, S: Sink> {
 
 impl<O: Session, S: Sink> Desk<O, S> {
     /// Before the first step.
-    pub(crate) fn new(book: Book<O>, sink: S, open: bool) -> Desk<O, S>
+    pub(crate) fn new(book: Book<O>, sink: S) -> Desk<O, S>
         requires world { world_of book.past.world ≡ O.start }
         requires limit { book.past.limit ≡ O.limit }
         requires sent { book.sent ≡ 0 }
@@ -105,145 +88,11 @@ impl<O: Session, S: Sink> Desk<O, S> {
         Desk {
             book,
             sink,
-            moves: 0,
-            sleepers: 0,
-            open,
-            over: false,
-            memory: false,
             failed: false,
         }
     }
 
-    /// A thread falls asleep. It answers how many commits have moved a thread, modulo 2^64.
-    pub(crate) fn begin_sleep(&mut self) -> u64 {
-        self.sleepers = self.sleepers.saturating_add(1);
-        self.moves
-    }
-
-    /// A thread has woken up.
-    pub(crate) fn end_sleep(&mut self) {
-        self.sleepers = self.sleepers.saturating_sub(1);
-    }
-
-    /// Whether a thread sleeps until another one has moved.
-    pub(crate) fn has_sleepers(&self) -> bool {
-        self.sleepers > 0
-    }
-
-    /// Whether the run goes on and no commit has moved a thread since there were `moves` such commits.
-    pub(crate) fn is_same(&self, moves: u64) -> bool {
-        !self.over && self.moves == moves
-    }
-
-    /// Ends the run.
-    pub(crate) fn end(&mut self) {
-        self.over = true;
-    }
-
-    /// Ends the run for want of memory.
-    pub(crate) fn end_for_memory(&mut self) {
-        self.memory = true;
-        self.over = true;
-    }
-
-    /// The innermost frame of a thread, and the classes that are initialized, if it asks for them, while the run goes
-    /// on.
-    pub(crate) fn look(
-        &mut self,
-        alloc: Global,
-        program: &Program,
-        thread: u32,
-        asks: bool,
-    ) -> Option<Front>
-        requires { thread < length O.start.threads }
-    {
-        if self.over {
-            return None;
-        }
-        match front_of(alloc, program, &self.book, thread, asks) {
-            Ok(front) => Some(front),
-            Err(_) => {
-                self.end_for_memory();
-                None
-            }
-        }
-    }
-
-    /// A commit, and what it printed into the sink.
-    pub(crate) fn commit(
-        &mut self,
-        alloc: Global,
-        program: &Program,
-        thread: u32,
-        made: Option<FrontStretch<O>>,
-    ) -> Next
-        requires program { program.now ≡ O.program }
-        requires thread { thread < length O.start.threads }
-    {
-        if self.over || self.failed {
-            return Next::Leave;
-        }
-        match self.book.commit_front(alloc, program, thread, made) {
-            Ok(answer) => self.follow(program, answer),
-            Err(_) => {
-                self.end_for_memory();
-                Next::Leave
-            }
-        }
-    }
-
-    /// A commit of a run of local instructions alone: nothing was printed, and no other thread waits for it.
-    pub(crate) fn commit_run(&mut self, alloc: Global, thread: u32, run: FrontRun<O>) -> Next
-        requires { thread < length O.start.threads }
-    {
-        if self.over {
-            return Next::Leave;
-        }
-        match self.book.commit_run(alloc, thread, run) {
-            Ok(Commit::Moved) => Next::Moved,
-            Ok(Commit::Full) => {
-                self.end();
-                Next::Leave
-            }
-            Ok(_) => Next::Again,
-            Err(_) => {
-                self.end_for_memory();
-                Next::Leave
-            }
-        }
-    }
-
-    /// What a thread does after a commit.
-    fn follow(&mut self, program: &Program, answer: Commit) -> Next
-        requires { self.old.failed ≡ false }
-    {
-        match answer {
-            Commit::Full => {
-                self.end();
-                Next::Leave
-            }
-            Commit::Stale => Next::Again,
-            Commit::Moved => {
-                self.moves = self.moves.wrapping_add(1);
-                if self.send() && !self.leave_to_last() {
-                    Next::Moved
-                } else {
-                    Next::Leave
-                }
-            }
-            Commit::Waiting => {
-                self.end_if_stuck(program);
-                if self.over { Next::Leave } else { Next::Sleep }
-            }
-            Commit::Ended => {
-                self.end_if_stuck(program);
-                let _left = self.leave_to_last();
-                Next::Leave
-            }
-        }
-    }
-
-    /// Sends what was printed, and answers whether it went out; else the run is over.
+    /// Sends what was printed, and answers whether it went out.
     pub(crate) fn send(&mut self) -> bool
         requires { self.old.failed ≡ false }
         ensures book { self.new.book.past ≡ self.old.book.past }
@@ -255,21 +104,13 @@ impl<O: Session, S: Sink> Desk<O, S> {
             Ok(()) => true,
             Err(SinkFault) => {
                 self.failed = true;
-                self.over = true;
                 false
             }
         }
     }
 
-    /// Ends the run where no thread has a step.
-    fn end_if_stuck(&mut self, program: &Program) {
-        if self.book.world().is_stuck(program) {
-            self.over = true;
-        }
-    }
-
     /// Why a run whose threads were joined has failed, if it has. Else all that was printed has gone out.
-    fn fault(&mut self, started: bool) -> Option<RunFault>
+    fn fault(&mut self, memory: bool, started: bool) -> Option<RunFault>
         ensures past { self.new.book.past ≡ self.old.book.past }
         ensures fault { IfSome result (λ f. IsFault O.program O.start O.limit f O.before (S.got self.new.sink) O.failed
             (S.failures self.new.sink)) }
@@ -280,7 +121,7 @@ impl<O: Session, S: Sink> Desk<O, S> {
         if self.failed {
             return Some(RunFault::Device(self.book.sent()));
         }
-        if self.memory {
+        if memory {
             return Some(RunFault::Memory);
         }
         if !started {
@@ -300,6 +141,7 @@ impl<O: Session, S: Sink> Desk<O, S> {
         self,
         alloc: Global,
         program: &Program,
+        memory: bool,
         started: bool,
     ) -> Result<(Result<Ended, RunFault>, S), Desk<O, S>>
         requires { program.now ≡ O.program }
@@ -307,7 +149,7 @@ impl<O: Session, S: Sink> Desk<O, S> {
             (S.failures a.1)) }
     {
         let mut desk = self;
-        if let Some(fault) = desk.fault(started) {
+        if let Some(fault) = desk.fault(memory, started) {
             return Ok((Err(fault), desk.into_sink()));
         }
         let _world = desk.book.world();
@@ -317,11 +159,6 @@ impl<O: Session, S: Sink> Desk<O, S> {
         let Desk {
             book,
             sink,
-            moves: _,
-            sleepers: _,
-            open: _,
-            over: _,
-            memory: _,
             failed: _,
         } = desk;
         Ok((verdict_of(alloc, book, rest), sink))
@@ -334,49 +171,9 @@ impl<O: Session, S: Sink> Desk<O, S> {
         let Desk {
             book: _,
             sink,
-            moves: _,
-            sleepers: _,
-            open: _,
-            over: _,
-            memory: _,
             failed: _,
         } = self;
         sink
-    }
-}
-
-/// The classes that are initialized, if they are asked for.
-fn done_in<O: Origin>(
-    alloc: Global,
-    program: &Program,
-    book: &Book<O>,
-    asks: bool,
-) -> Result<Option<DoneSet>, AllocError> {
-    if !asks {
-        return Ok(None);
-    }
-    match book.done(alloc, program) {
-        Ok(done) => Ok(Some(done)),
-        Err(error) => Err(error),
-    }
-}
-
-/// The innermost frame of a thread, and the classes that are initialized, if they are asked for.
-fn front_of<O: Origin>(
-    alloc: Global,
-    program: &Program,
-    book: &Book<O>,
-    thread: u32,
-    asks: bool,
-) -> Result<Front, AllocError>
-    requires { thread < length book.now.past.world.threads }
-{
-    match book.front(alloc, thread) {
-        Ok(frame) => match done_in(alloc, program, book, asks) {
-            Ok(done) => Ok(Front { frame, done }),
-            Err(error) => Err(error),
-        },
-        Err(error) => Err(error),
     }
 }
 

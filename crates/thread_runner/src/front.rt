@@ -219,6 +219,11 @@ impl<O: Origin> FrontRun<O> {
 }
 
 impl<O: Origin> FrontStretch<O> {
+    /// How many instructions it did.
+    pub(crate) fn count(&self) -> u64 {
+        self.run.count()
+    }
+
     /// As a run.
     pub(crate) fn into_run(self) -> FrontRun<O>
         ensures is { result ≡ self }

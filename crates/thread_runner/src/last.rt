@@ -76,28 +76,12 @@ fn last_going(world: &World) -> Option<u32>
 }
 
 impl<O: Session, S: Sink> Desk<O, S> {
-    /// The thread that goes on alone, if nobody asks its gate and all others have ended.
-    fn last(&self) -> Option<u32>
-        ensures { IfSome result (λ t. t < length O.start.threads) }
-    {
-        if !self.open {
-            return None;
-        }
-        last_going(self.book.world())
+    /// Whether one thread alone is left that has not ended, where nobody asks the gates of threads.
+    pub(crate) fn is_left_to_last(&self, open: bool) -> bool {
+        open && last_going(self.book.world()).is_some()
     }
 
-    /// Ends the run of the threads together where one alone is left, and answers whether it did.
-    pub(crate) fn leave_to_last(&mut self) -> bool
-        ensures { self.new.failed ≡ self.old.failed }
-    {
-        let left = self.last().is_some();
-        if left {
-            self.over = true;
-        }
-        left
-    }
-
-    /// Once the threads were joined: where one alone is left it goes on, and what it prints into the sink.
+    /// Once the threads were joined: where one alone is left, and may, it goes on, and what it prints into the sink.
     ///
     /// # Errors
     /// The sink, where memory is refused.
@@ -105,15 +89,15 @@ impl<O: Session, S: Sink> Desk<O, S> {
         self,
         alloc: Global,
         program: &Program,
-        started: bool,
+        may: bool,
     ) -> Result<Desk<O, S>, S>
         requires { program.now ≡ O.program }
         ensures { IfErr result (λ s. HavePrintsGoneOut O.program O.start O.before (S.got s)) }
     {
-        if self.failed || self.memory || !started {
+        if self.failed || !may {
             return Ok(self);
         }
-        match self.last() {
+        match last_going(self.book.world()) {
             Some(thread) => self.run_last(alloc, program, thread),
             None => Ok(self),
         }
@@ -152,7 +136,7 @@ impl<O: Session, S: Sink> Desk<O, S> {
     ///
     /// # Errors
     /// The sink, where memory is refused.
-    fn run_slice(
+    pub(crate) fn run_slice(
         self,
         alloc: Global,
         program: &Program,
@@ -171,32 +155,14 @@ impl<O: Session, S: Sink> Desk<O, S> {
         ensures memory { IfErr result (λ s. HavePrintsGoneOut O.program O.start O.before (S.got s)) }
     {
         let _world = self.book.world();
-        let Desk {
-            book,
-            sink,
-            moves,
-            sleepers,
-            open,
-            over,
-            memory,
-            failed,
-        } = self;
+        let Desk { book, sink, failed } = self;
         let slice = Slice {
             steps: most.min(STEPS),
             bytes: BYTES,
         };
         match book.run_on(alloc, program, table, thread, slice) {
             Ok((book, made)) => {
-                let mut desk = Desk {
-                    book,
-                    sink,
-                    moves,
-                    sleepers,
-                    open,
-                    over,
-                    memory,
-                    failed,
-                };
+                let mut desk = Desk { book, sink, failed };
                 let _sent = desk.send();
                 Ok((desk, made))
             }

@@ -9,6 +9,7 @@ use crate::answer::{Ended, RunFault};
 use crate::book::Book;
 use crate::desk::{Desk, Session};
 use crate::gate::Gate;
+use crate::run_state::RunState;
 use crate::worker::work;
 use init_engine::World;
 use program::Program;
@@ -20,11 +21,11 @@ use std::thread;
 use std::thread::Threads;
 
 /// Runs `count` threads to their end, and answers whether all could be started.
-fn run_all<O: Session + Send + Sync, S: Sink + Send, G: Gate, R: Threads + Wait + Sync>(
+fn run_all<O: Session + Send + Sync, S: Sink + Send + Drop, G: Gate, R: Threads + Wait + Sync>(
     rt: &R,
     alloc: Global,
     program: &Program,
-    desk: &Mutex<Desk<O, S>>,
+    state: &Mutex<RunState<O, S>>,
     moved: &Condvar,
     gate: &G,
     count: u32,
@@ -42,10 +43,10 @@ fn run_all<O: Session + Send + Sync, S: Sink + Send, G: Gate, R: Threads + Wait 
                 let one = scope.spawn(
                     move ||
                         requires { (program.now ≡ O.program) × (number < length O.start.threads) }
-                    { work(rt, alloc, program, desk, moved, gate, number) },
+                    { work(rt, alloc, program, state, moved, gate, number) },
                 );
                 if one.is_err() {
-                    desk.lock(rt).end();
+                    state.lock(rt).end();
                     moved.notify_all();
                     return false;
                 }
@@ -74,16 +75,21 @@ fn run_session<O: Session + Send + Sync, S: Sink + Send + Drop, G: Gate, R: Thre
     ensures { IsAnswer O.program O.start O.limit result.0 O.before (S.got result.1) O.failed (S.failures result.1) }
 {
     let count = world.thread_count();
-    let mut desk = Desk::<O, S>::new(Book::new(alloc, world, limit), sink, gate.is_open());
+    let open = gate.is_open();
+    let mut desk = Desk::<O, S>::new(Book::new(alloc, world, limit), sink);
     let moved = Condvar::new();
     for _ in rt.forever() {
-        let shared = Mutex::new(desk);
-        let started = run_all(rt, alloc, program, &shared, &moved, gate, count);
-        desk = match shared.into_inner().go_on_alone(alloc, program, started) {
+        let state = Mutex::new(RunState::new(desk, open));
+        let started = run_all(rt, alloc, program, &state, &moved, gate, count);
+        let (left, memory) = match state.into_inner().into_desk() {
+            Ok(left) => left,
+            Err(sink) => return (Err(RunFault::Memory), sink),
+        };
+        desk = match left.go_on_alone(alloc, program, open && started && !memory) {
             Ok(desk) => desk,
             Err(sink) => return (Err(RunFault::Memory), sink),
         };
-        desk = match desk.judge(alloc, program, started) {
+        desk = match desk.judge(alloc, program, memory, started) {
             Ok(answered) => return answered,
             Err(going) => going,
         };

@@ -2,11 +2,13 @@
 
 ghost use Rattle.std.specs.Prelude.{◌≡◌, ◌<◌, length};
 
-use crate::desk::{Desk, Front, Next, Session};
+use crate::committing::Front;
+use crate::desk::{Next, Session};
 use crate::front::{FrontRun, FrontStretch};
 use crate::gate::{Gate, ask};
 use crate::known::KnownClasses;
 use crate::made::{Made, make};
+use crate::run_state::RunState;
 use crate::tools::Tools;
 use program::Program;
 use sinks::Sink;
@@ -15,11 +17,11 @@ use std::sync::{Condvar, Mutex, Wait};
 use vm_state::frame::Frame;
 
 /// Runs one thread to its end, or to that of the run.
-pub(crate) fn work<O: Session, S: Sink, G: Gate, R: Wait>(
+pub(crate) fn work<O: Session, S: Sink + Drop, G: Gate, R: Wait>(
     rt: &R,
     alloc: Global,
     program: &Program,
-    desk: &Mutex<Desk<O, S>>,
+    state: &Mutex<RunState<O, S>>,
     moved: &Condvar,
     gate: &G,
     thread: u32,
@@ -30,8 +32,12 @@ pub(crate) fn work<O: Session, S: Sink, G: Gate, R: Wait>(
     let mut job = 0u64;
     let mut tools = Tools::<O>::new(alloc);
     let mut known = KnownClasses::none();
-    let locked = LockedDesk { desk, moved };
-    let mut front = locked.look(rt, alloc, program, thread, known.is_old());
+    let locked = LockedState {
+        state,
+        moved,
+        thread,
+    };
+    let mut front = locked.look(rt, alloc, program, known.is_old());
     for _ in rt.forever() {
         let Some(Front { frame, done }) = front else {
             moved.notify_all();
@@ -42,15 +48,15 @@ pub(crate) fn work<O: Session, S: Sink, G: Gate, R: Wait>(
         let made = make(alloc, program, &mut tools, thread, frame, known.done());
         gate.done(thread, job);
         let Ok(made) = made else {
-            desk.lock(rt).end_for_memory();
+            state.lock(rt).end_for_memory();
             moved.notify_all();
             return;
         };
         let (moves, next) = match made {
             Made::Stretch(stretch) => {
-                locked.commit(rt, alloc, program, thread, stretch, known.is_old())
+                locked.commit(rt, alloc, program, &mut tools, stretch, known.is_old())
             }
-            Made::Run(run, end) => locked.commit_run(rt, alloc, program, thread, run, end),
+            Made::Run(run, end) => locked.commit_run(rt, alloc, program, run, end),
         };
         if moves {
             job = job.wrapping_add(1);
@@ -59,26 +65,20 @@ pub(crate) fn work<O: Session, S: Sink, G: Gate, R: Wait>(
     }
 }
 
-/// The desk of a run under its lock, and where threads wait until another one has moved.
+/// How a run stands, under its lock, and where a thread waits until another one has moved.
 #[derive(Drop)]
-struct LockedDesk<'a, O: Session, S: Sink> {
-    desk: &'a Mutex<Desk<O, S>>,
+struct LockedState<'a, O: Session, S: Sink> {
+    state: &'a Mutex<RunState<O, S>>,
     moved: &'a Condvar,
+    thread: u32,
 }
 
-impl<'a, O: Session, S: Sink> LockedDesk<'a, O, S> {
-    /// What a thread takes along from under the lock, while the run goes on.
-    fn look<R: Wait>(
-        &self,
-        rt: &R,
-        alloc: Global,
-        program: &Program,
-        thread: u32,
-        asks: bool,
-    ) -> Option<Front>
-        requires { thread < length O.start.threads }
+impl<'a, O: Session, S: Sink + Drop> LockedState<'a, O, S> {
+    /// What the thread takes along from under the lock, while the run goes on.
+    fn look<R: Wait>(&self, rt: &R, alloc: Global, program: &Program, asks: bool) -> Option<Front>
+        requires { self.now.thread < length O.start.threads }
     {
-        self.desk.lock(rt).look(alloc, program, thread, asks)
+        self.state.lock(rt).look(alloc, program, self.thread, asks)
     }
 
     /// Commits a stretch, if there is one, and answers whether the thread has moved or leaves, and what it takes along
@@ -90,22 +90,25 @@ impl<'a, O: Session, S: Sink> LockedDesk<'a, O, S> {
         rt: &R,
         alloc: Global,
         program: &Program,
-        thread: u32,
+        tools: &mut Tools<O>,
         made: Option<FrontStretch<O>>,
         asks: bool,
     ) -> (bool, Option<Front>)
         requires program { program.now ≡ O.program }
-        requires thread { thread < length O.start.threads }
+        requires thread { self.now.thread < length O.start.threads }
     {
-        let mut guard = self.desk.lock(rt);
-        let (moves, front) = match guard.commit(alloc, program, thread, made) {
+        let thread = self.thread;
+        let mut guard = self.state.lock(rt);
+        let (moves, front) = match guard.commit(alloc, program, tools, thread, made) {
             Next::Sleep => {
                 let moves = guard.begin_sleep();
-                let mut guard = self.moved.wait_while(rt, guard, |desk| desk.is_same(moves));
+                let mut guard = self
+                    .moved
+                    .wait_while(rt, guard, |state| state.is_same(moves));
                 guard.end_sleep();
                 return (false, guard.look(alloc, program, thread, asks));
             }
-            Next::Leave => (true, None),
+            Next::Leave | Next::End => (true, None),
             Next::Again => (false, guard.look(alloc, program, thread, asks)),
             Next::Moved => (true, guard.look(alloc, program, thread, asks)),
         };
@@ -124,20 +127,19 @@ impl<'a, O: Session, S: Sink> LockedDesk<'a, O, S> {
         rt: &R,
         alloc: Global,
         program: &Program,
-        thread: u32,
         run: FrontRun<O>,
         end: Frame,
     ) -> (bool, Option<Front>)
-        requires { thread < length O.start.threads }
+        requires { self.now.thread < length O.start.threads }
     {
-        let mut guard = self.desk.lock(rt);
-        match guard.commit_run(alloc, thread, run) {
+        let mut guard = self.state.lock(rt);
+        match guard.commit_run(alloc, self.thread, run) {
             Next::Moved => {
                 let frame = Some(end);
                 (true, Some(Front { frame, done: None }))
             }
-            Next::Again => (false, guard.look(alloc, program, thread, false)),
-            Next::Sleep | Next::Leave => (true, None),
+            Next::Again => (false, guard.look(alloc, program, self.thread, false)),
+            Next::Sleep | Next::Leave | Next::End => (true, None),
         }
     }
 }

@@ -11,8 +11,8 @@ returns-then-self-clause-fault g c =
       d.fault c.if-self.true,
     )
 
-pub returns-then-self-2-clause-fault : goal.returns-then-self-2-clause-fault
-returns-then-self-2-clause-fault g c =
+pub returns-then-memory-clause-fault : goal.returns-then-self-2-clause-fault
+returns-then-memory-clause-fault g c =
     let d = c.args.self.now in
     lines_gone g.O.Origin.program g.O.Origin.start d.book.past d.book.sent g.O.Session.before (g.S.Sink.got d.sink)
     c.world-world.ensures.kept (c.world-world.ensures.prints (d.part c.if-self.false)) d.sent

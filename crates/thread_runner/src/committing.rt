@@ -1,0 +1,127 @@
+//! What a thread of a run takes from the desk, and what it commits there.
+
+ghost use Rattle.std.specs.Prelude.{◌≡◌, ◌<◌, false, length};
+
+use crate::desk::{Desk, Next, Session};
+use crate::done_set::DoneSet;
+use crate::front::{FrontRun, FrontStretch};
+use crate::history::Commit;
+use program::Program;
+use sinks::Sink;
+use std::alloc::{AllocError, Global};
+use vm_state::frame::Frame;
+
+/// What a thread takes along from under the lock: its innermost frame, if there is one, and the classes that are
+/// initialized, if it asked for them.
+#[derive(Drop)]
+pub(crate) struct Front {
+    pub frame: Option<Frame>,
+    pub done: Option<DoneSet>,
+}
+
+impl<O: Session, S: Sink> Desk<O, S> {
+    /// The classes that are initialized, if they are asked for.
+    fn done(
+        &self,
+        alloc: Global,
+        program: &Program,
+        asks: bool,
+    ) -> Result<Option<DoneSet>, AllocError> {
+        if !asks {
+            return Ok(None);
+        }
+        match self.book.done(alloc, program) {
+            Ok(done) => Ok(Some(done)),
+            Err(error) => Err(error),
+        }
+    }
+
+    /// The innermost frame of a thread, and the classes that are initialized, if they are asked for.
+    pub(crate) fn front(
+        &self,
+        alloc: Global,
+        program: &Program,
+        thread: u32,
+        asks: bool,
+    ) -> Result<Front, AllocError>
+        requires { thread < length O.start.threads }
+    {
+        match self.book.front(alloc, thread) {
+            Ok(frame) => match self.done(alloc, program, asks) {
+                Ok(done) => Ok(Front { frame, done }),
+                Err(error) => Err(error),
+            },
+            Err(error) => Err(error),
+        }
+    }
+
+    /// A commit, and what it printed into the sink. Where `open` says that nobody asks the gates of threads, the last
+    /// one goes on alone.
+    pub(crate) fn commit(
+        &mut self,
+        alloc: Global,
+        program: &Program,
+        thread: u32,
+        made: Option<FrontStretch<O>>,
+        open: bool,
+    ) -> Result<Next, AllocError>
+        requires program { program.now ≡ O.program }
+        requires thread { thread < length O.start.threads }
+    {
+        if self.failed {
+            return Ok(Next::End);
+        }
+        match self.book.commit_front(alloc, program, thread, made) {
+            Ok(answer) => Ok(self.follow(program, answer, open)),
+            Err(error) => Err(error),
+        }
+    }
+
+    /// A commit of a run of local instructions alone: nothing was printed, and no other thread waits for it.
+    pub(crate) fn commit_run(
+        &mut self,
+        alloc: Global,
+        thread: u32,
+        run: FrontRun<O>,
+    ) -> Result<Next, AllocError>
+        requires { thread < length O.start.threads }
+    {
+        match self.book.commit_run(alloc, thread, run) {
+            Ok(Commit::Moved) => Ok(Next::Moved),
+            Ok(Commit::Full) => Ok(Next::End),
+            Ok(_) => Ok(Next::Again),
+            Err(error) => Err(error),
+        }
+    }
+
+    /// What a thread does after a commit.
+    fn follow(&mut self, program: &Program, answer: Commit, open: bool) -> Next
+        requires { self.old.failed ≡ false }
+    {
+        match answer {
+            Commit::Full => Next::End,
+            Commit::Stale => Next::Again,
+            Commit::Moved => {
+                if self.send() && !self.is_left_to_last(open) {
+                    Next::Moved
+                } else {
+                    Next::End
+                }
+            }
+            Commit::Waiting => {
+                if self.book.world().is_stuck(program) {
+                    Next::End
+                } else {
+                    Next::Sleep
+                }
+            }
+            Commit::Ended => {
+                if self.book.world().is_stuck(program) || self.is_left_to_last(open) {
+                    Next::End
+                } else {
+                    Next::Leave
+                }
+            }
+        }
+    }
+}
