@@ -1,6 +1,6 @@
 //! How a run of threads stands, and what its threads do under its lock.
 
-ghost use Rattle.std.specs.Prelude.{◌≡◌, ◌<◌, None, IfErr, IsSome, length};
+ghost use Rattle.std.specs.Prelude.{◌≡◌, ◌≢◌, ◌<◌, None, IfErr, length};
 ghost use Rattle.thread_runner.specs.Answers.{HavePrintsGoneOut};
 
 use crate::committing::Front;
@@ -41,7 +41,7 @@ pub(crate) struct RunState<O: Session, S: Sink> {
     open: bool,
     over: bool,
     memory: bool,
-    ghost there: { desk ≡ None → IsSome lost },
+    ghost there: { desk ≡ None → lost ≢ None },
 }
 
 /// Whether a stretch is so short that its thread goes on under the lock.
