@@ -10,7 +10,7 @@ use crate::tools::Tools;
 use program::Program;
 use sinks::Sink;
 use std::alloc::{AllocError, Global};
-use std::marker::PhantomData;
+use std::marker::{Model, PhantomData};
 
 /// After stretches of fewer instructions a thread goes on under the lock.
 const SHORT: u64 = 64;
@@ -18,12 +18,40 @@ const SHORT: u64 = 64;
 /// How many steps a thread makes there at most before others may take the lock.
 const COURSE: u64 = 1_000;
 
-/// The sink of a run of which memory was refused in the midst of steps. It has got the first prints of some run.
+/// The sink of a run of which memory was refused in the midst of steps.
 #[derive(Drop)]
 pub(crate) struct LostSink<O: Session, S: Sink> {
     sink: S,
     of: PhantomData<O>,
-    ghost gone: { HavePrintsGoneOut O.program O.start O.before (S.got sink) },
+}
+
+impl<O: Session, S: Sink> Model for LostSink<O, S> {
+    ghost use Rattle.thread_runner.specs.Answers.{HavePrintsGoneOut};
+
+    ghost Value = { Unit {0} };
+
+    ghost view = { λ l. tt };
+
+    // It has got the first prints of some run.
+    ghost invariant = { λ l. HavePrintsGoneOut O.program O.start O.before (S.got l.sink) };
+}
+
+impl<O: Session, S: Sink> LostSink<O, S> {
+    fn new(sink: S) -> LostSink<O, S>
+        requires { HavePrintsGoneOut O.program O.start O.before (S.got sink) }
+    {
+        LostSink {
+            sink,
+            of: PhantomData,
+        }
+    }
+
+    fn into_sink(self) -> S
+        ensures { HavePrintsGoneOut O.program O.start O.before (S.got result) }
+    {
+        let LostSink { sink, of: _ } = self;
+        sink
+    }
 }
 
 /// What lies under the lock of a run.
@@ -199,10 +227,7 @@ impl<O: Session, S: Sink + Drop> RunState<O, S> {
                 self.desk = Some(desk);
             }
             Err(sink) => {
-                self.lost = Some(LostSink {
-                    sink,
-                    of: PhantomData,
-                });
+                self.lost = Some(LostSink::new(sink));
                 self.end_for_memory();
             }
         }
@@ -227,7 +252,7 @@ impl<O: Session, S: Sink + Drop> RunState<O, S> {
         match desk {
             Some(desk) => Ok((desk, memory)),
             None => match lost {
-                Some(LostSink { sink, of: _ }) => Err(sink),
+                Some(lost) => Err(lost.into_sink()),
                 None => unreachable!(),
             },
         }
