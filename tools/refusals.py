@@ -1,4 +1,5 @@
-"""Calls that are refused memory or threads: the program `memory_cases` makes them, this refuses one after the other.
+"""Calls that are refused memory or threads: the program `product_cases` makes them, by its words that begin with
+`memory `, and this refuses one after the other.
 
 A line of that program is the name of a call, `: ` and what it answered. Each call is made twice over what it is lent.
 With ample memory the lines are those of its file `stdout`. Then, for each of the growths that the first call asks for,
@@ -6,7 +7,7 @@ the program is run again with that one refused (`tools/refusing.c`): the first l
 `Memory` in the place of the answer, or `Spawn` of `run_threads`, and all others have to be the same. So it is with the
 starts of threads. No thread may be left running when a call has answered.
 
-The words `feed ..` have inputs fed to a reader, and what it holds is measured.
+The words `memory feed ..` have inputs fed to a reader, and what it holds is measured.
 """
 import concurrent.futures
 import dataclasses
@@ -14,11 +15,13 @@ import os
 import re
 import subprocess
 
+# What the words of calls begin with, and of those that feed inputs.
+WORDS, FEED = "memory ", "memory feed "
 GROWTHS, STARTS = "growths", "starts"
 REFUSED = {GROWTHS: "REFUSED_GROWTH", STARTS: "REFUSED_START"}
 # This call answers a word of its own where a thread is not started, which takes memory, too.
 SPAWNING = "run_threads"
-# These start threads, and no others do.
+# The words that end so start threads, and no others do.
 STARTING = ("settle_all", "build_program", "run_threads", "run_threads_at_a_gate", "run_threads_into_sinks_that_fail")
 # A reader may hold so many bytes for each byte of its input, and so many beyond.
 BYTES_A_BYTE, BYTES = 40, 1 << 20
@@ -134,11 +137,11 @@ def fed(program, word):
 
 def tried(program, word):
     """Tries a word. Answers lines, each with whether all is well."""
-    if word.startswith("feed "):
+    if word.startswith(FEED):
         most, wrong = fed(program, word)
         return [(wrong is None, f"{word}: {wrong or f'at most {most} bytes were held'}")]
     answers = []
-    for what in (GROWTHS, STARTS) if word in STARTING else (GROWTHS,):
+    for what in (GROWTHS, STARTS) if word.rpartition(" ")[2] in STARTING else (GROWTHS,):
         count, wrong = refuse_each(program, word, what)
         wrong = wrong or (None if count else "it asks for none")
         answers.append((wrong is None, f"{word}: {what}: {wrong or f'each of {count} refused, and all is well'}"))
@@ -146,8 +149,9 @@ def tried(program, word):
 
 
 def check(program, words, say):
-    """Tries each word. Answers how many passed and how many failed."""
+    """Tries each word that makes calls. Answers how many passed and how many failed."""
     passed = failed = 0
+    words = [word for word in words if word.startswith(WORDS)]
     with concurrent.futures.ThreadPoolExecutor(os.cpu_count()) as pool:
         for answers in pool.map(lambda word: tried(program, word), words):
             for is_well, line in answers:

@@ -82,7 +82,7 @@ fn part(alloc: Global, bytes: &[u8], about: &str) -> Result<String, AllocError> 
 }
 
 /// What stands before the digest.
-fn body(bytes: &[u8]) -> &[u8] {
+pub fn body(bytes: &[u8]) -> &[u8] {
     bytes
         .get(..bytes.len().saturating_sub(DIGEST))
         .unwrap_or(&[])

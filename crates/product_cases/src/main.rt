@@ -9,6 +9,8 @@
 //! of them, and compares what both show with that file. `report=` and a file compares the report of a build of them
 //! with that file.
 //!
+//! A word that begins with `memory ` has a call made that takes memory, or inputs fed to a reader (`MEMORY.md`).
+//!
 //! It prints a line for each word, and one for each answer that is not as it is wanted. Its status is 0 where all
 //! are.
 #![tactic(auto)]
@@ -24,6 +26,7 @@ mod image_runs;
 mod image_sinks;
 mod images;
 mod members;
+mod memory;
 mod patterns;
 mod programs;
 mod questions;
@@ -106,6 +109,18 @@ fn subject_of(name: &str) -> About {
 
 /// Does one word, and answers whether all is as it is wanted.
 fn do_word<R, W>(rt: &R, out: &mut W, word: &str, classes: &mut Vec<ClassFile>) -> io::Result<bool>
+where
+    R: rt::Files + AllocGlobal + Threads + Wait + Sync,
+    W: Write,
+{
+    match word.split_once(' ') {
+        Some(("memory", call)) => memory::call(rt, out, call),
+        _ => do_file(rt, out, word, classes),
+    }
+}
+
+/// Does one word that names a file.
+fn do_file<R, W>(rt: &R, out: &mut W, word: &str, classes: &mut Vec<ClassFile>) -> io::Result<bool>
 where
     R: rt::Files + AllocGlobal + Threads + Wait + Sync,
     W: Write,

@@ -54,6 +54,29 @@ pub struct OneByOne<'a> {
     pub is_same: bool,
 }
 
+impl<'a> OneByOne<'a> {
+    /// One that fails in the end.
+    pub fn failing(wanted: &'a [u8], room: usize) -> OneByOne<'a> {
+        OneByOne {
+            wanted,
+            taken: 0,
+            room,
+            stalls: false,
+            is_same: true,
+        }
+    }
+
+    /// Whether it got just the first so many bytes of what is wanted.
+    pub fn has(&self, count: u128) -> bool {
+        self.is_same && self.taken as u128 == count
+    }
+
+    /// Whether it got as many of them as it takes.
+    pub fn is_full(&self) -> bool {
+        self.has(self.room as u128)
+    }
+}
+
 impl<'a> Write for OneByOne<'a> {
     fn write(&mut self, bytes: &[u8]) -> io::Result<usize> {
         let Some(first) = bytes.first() else {

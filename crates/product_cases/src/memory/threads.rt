@@ -1,8 +1,8 @@
 //! Calls that run threads of the system, and calls on journals.
 
-use crate::page::{Page, TIMES, wrong_data};
-use crate::programs::{program_of, start_of};
-use crate::streams::Compared;
+use super::page::{Page, wrong_data};
+use super::programs::start_of;
+use crate::streams::OneByOne;
 use journal::{Journal, JournalFault};
 use program::Program;
 use sinks::Out;
@@ -38,45 +38,47 @@ impl Gate for Asked {
 pub fn call<R: Threads + Wait + Sync, W: Write>(
     rt: &R,
     page: &mut Page<'_, W>,
-    word: &str,
-    text: &str,
+    name: &str,
+    program: &Program,
 ) -> io::Result<bool> {
-    if !matches!(
-        word,
-        "run_threads"
-            | "run_threads_at_a_gate"
-            | "run_threads_into_sinks_that_fail"
-            | "replay"
-            | "Journal::parse"
-            | "Journal::text"
-    ) {
-        return Ok(false);
-    }
-    let program = program_of(page.alloc, text)?;
-    let journal = journal_of(page.alloc)?;
-    for _ in 0..TIMES {
-        match word {
-            "run_threads" => run_work(rt, page, &program, &Open, PRINTED)?,
-            "run_threads_at_a_gate" => run_work(rt, page, &program, &Asked, PRINTED)?,
-            "run_threads_into_sinks_that_fail" => run_into_all(rt, page, &program)?,
-            "replay" => replay_journal(page, &program, &journal)?,
-            "Journal::parse" => parse_text(page)?,
-            _ => write_text(page, &journal)?,
+    match journal_of(page.alloc) {
+        Ok(journal) => {
+            make(rt, page, name, program, &journal)?;
+            make(rt, page, name, program, &journal)
         }
+        Err(error) => Err(error),
+    }
+}
+
+fn make<R: Threads + Wait + Sync, W: Write>(
+    rt: &R,
+    page: &mut Page<'_, W>,
+    name: &str,
+    program: &Program,
+    journal: &Journal,
+) -> io::Result<bool> {
+    match name {
+        "run_threads" => run_work(rt, page, program, &Open, PRINTED.len())?,
+        "run_threads_at_a_gate" => run_work(rt, page, program, &Asked, PRINTED.len())?,
+        "run_threads_into_sinks_that_fail" => run_into_all(rt, page, program)?,
+        "replay" => replay_journal(page, program, journal)?,
+        "Journal::parse" => parse_text(page)?,
+        "Journal::text" => write_text(page, journal)?,
+        _ => return Ok(false),
     }
     Ok(true)
 }
 
-/// Runs three threads into a sink that has room for the text that is wanted, and fails then.
+/// Runs three threads into a sink that takes so many bytes, and fails then.
 fn run_work<R: Threads + Wait + Sync, G: Gate, W: Write>(
     rt: &R,
     page: &mut Page<'_, W>,
     program: &Program,
     gate: &G,
-    wanted: &[u8],
+    room: usize,
 ) -> io::Result<()> {
     let world = start_of(page.alloc, program, "Work,Work,Work")?;
-    let out = Out::new(Compared::new(wanted));
+    let out = Out::new(OneByOne::failing(PRINTED, room));
     page.ask("run_threads")?;
     let (answer, out) = run_threads(rt, page.alloc, program, world, gate, out, MANY);
     tell_answer(page, &answer, &out.into_inner())
@@ -89,13 +91,7 @@ fn run_into_all<R: Threads + Wait + Sync, W: Write>(
     program: &Program,
 ) -> io::Result<()> {
     for room in 0..PRINTED.len() {
-        run_work(
-            rt,
-            page,
-            program,
-            &Open,
-            PRINTED.get(..room).unwrap_or(PRINTED),
-        )?;
+        run_work(rt, page, program, &Open, room)?;
     }
     Ok(())
 }
@@ -104,13 +100,13 @@ fn run_into_all<R: Threads + Wait + Sync, W: Write>(
 fn tell_answer<W: Write>(
     page: &mut Page<'_, W>,
     answer: &Result<Ended, RunFault>,
-    stream: &Compared<'_>,
+    stream: &OneByOne<'_>,
 ) -> io::Result<()> {
     match answer {
-        Ok(ended) if stream.is_whole() => page.line(&steps_in(ended.journal.runs())),
+        Ok(ended) if stream.is_full() => page.line(&steps_in(ended.journal.runs())),
         Err(RunFault::Memory) if stream.is_same => page.memory(),
         Err(RunFault::Spawn) if stream.is_same => page.line(&"Spawn"),
-        Err(RunFault::Device(sent)) if stream.is_whole() && stream.has(*sent) => {
+        Err(RunFault::Device(sent)) if stream.is_full() && stream.has(*sent) => {
             page.line(&"Device")
         }
         _ => page.line(&"another fault, or another text"),

@@ -3,8 +3,7 @@
 ghost use Rattle.std.specs.Prelude.{◌≡◌, IfOk, length};
 ghost use Rattle.wave_scheduler.specs.Outcomes.{AreJudged};
 
-use crate::page::{Page, TIMES, wrong_data};
-use crate::programs::program_of;
+use super::page::{Page, wrong_data};
 use evaluator::outcome::Evaluation;
 use evaluator::settling::evaluate;
 use initializer_analysis::forced::Forced;
@@ -30,44 +29,43 @@ const WORKERS: u32 = 3;
 pub fn call<R: Threads + Wait + Sync, W: Write>(
     rt: &R,
     page: &mut Page<'_, W>,
-    word: &str,
-    text: &str,
+    name: &str,
+    program: &Program,
 ) -> io::Result<bool> {
-    if !matches!(
-        word,
-        "uses" | "judge" | "settle_all_here" | "settle_all" | "settle" | "Regions::put"
-    ) {
-        return Ok(false);
-    }
-    let program = program_of(page.alloc, text)?;
-    let settled = settled_of(page.alloc, &program)?;
-    for _ in 0..TIMES {
-        match word {
-            "settle_all_here" | "settle_all" => settle(rt, page, word, &program)?,
-            "Regions::put" => put_last(page, &program)?,
-            _ => count(page, word, &program, &settled.regions)?,
+    match settled_of(page.alloc, program) {
+        Ok(settled) => {
+            make(rt, page, name, program, &settled.regions)?;
+            make(rt, page, name, program, &settled.regions)
         }
+        Err(error) => Err(error),
     }
-    Ok(true)
 }
 
-/// A call that answers a number, or that memory was refused.
-fn count<W: Write>(
+fn make<R: Threads + Wait + Sync, W: Write>(
+    rt: &R,
     page: &mut Page<'_, W>,
-    word: &str,
+    name: &str,
     program: &Program,
     regions: &Regions,
-) -> io::Result<()> {
-    page.ask(word)?;
-    let answer = match word {
-        "uses" => uses_in(page.alloc, program),
-        "judge" => judged_in(page.alloc, program),
-        _ => settled_over(page.alloc, program, regions),
-    };
-    match answer {
-        Ok(count) => page.value(count),
-        Err(_) => page.memory(),
+) -> io::Result<bool> {
+    match name {
+        "uses" => {
+            page.ask(name)?;
+            page.number(uses_in(page.alloc, program))?;
+        }
+        "judge" => {
+            page.ask(name)?;
+            page.number(judged_in(page.alloc, program))?;
+        }
+        "settle" => {
+            page.ask(name)?;
+            page.number(settled_over(page.alloc, program, regions))?;
+        }
+        "settle_all_here" | "settle_all" => settle(rt, page, name, program)?,
+        "Regions::put" => put_last(page, program)?,
+        _ => return Ok(false),
     }
+    Ok(true)
 }
 
 /// How many methods may run for the classes of a program, and classes that they may use.
@@ -109,12 +107,12 @@ fn judged_in(alloc: Global, program: &Program) -> Result<usize, AllocError> {
 fn settle<R: Threads + Wait + Sync, W: Write>(
     rt: &R,
     page: &mut Page<'_, W>,
-    word: &str,
+    name: &str,
     program: &Program,
 ) -> io::Result<()> {
     let verdicts = judged(page.alloc, program)?;
-    page.ask(word)?;
-    let answer = if word == "settle_all" {
+    page.ask(name)?;
+    let answer = if name == "settle_all" {
         settle_all(rt, page.alloc, program, verdicts, BUDGET, WORKERS, &Open)
     } else {
         settle_all_here(page.alloc, program, verdicts, BUDGET)

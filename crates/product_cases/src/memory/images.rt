@@ -4,13 +4,12 @@ ghost use Rattle.std.specs.Prelude.{◌≡◌, IfOk};
 ghost use Rattle.image_format.specs.Images.{AreShort};
 ghost use Rattle.report.specs.Waves.{GiveWaves};
 
-use crate::feeding::images_of;
-use crate::page::{Page, TIMES, wrong_data};
-use crate::programs::{entries_of, files_of, linked};
-use crate::readers::add_digest;
-use crate::streams::Compared;
+use super::page::{Page, wrong_data};
+use super::programs::{linked, shelf_of};
+use crate::streams::OneByOne;
 use building::{BuildFault, BuildOptions, Built, build_program, build_program_here};
 use classfile::ClassName;
+use cli::entries_of;
 use image_reader::{into_world, read, world};
 use image_writer::{WriteFault, write};
 use object_graph::{Image, reachable};
@@ -41,56 +40,55 @@ fn options() -> BuildOptions<'static>
 pub fn call<R: Threads + Wait + Sync, W: Write>(
     rt: &R,
     page: &mut Page<'_, W>,
-    word: &str,
-    text: &str,
+    name: &str,
+    files: &[Vec<u8>],
     images: &str,
 ) -> io::Result<bool> {
-    match word {
+    match name {
         "build_program_here" | "build_program" => {
-            let files = files_of(page.alloc, text)?;
-            for _ in 0..TIMES {
-                build(rt, page, word, &files)?;
-            }
+            build(rt, page, name, files)?;
+            build(rt, page, name, files)?;
+            Ok(true)
         }
-        "render"
-        | "image_writer::write"
-        | "image_reader::read"
-        | "world"
-        | "into_world"
-        | "reachable" => of_image(page, word, text, images)?,
-        _ => return Ok(false),
+        "render" => match built_of(page.alloc, files) {
+            Ok(built) => render_built(page, &built),
+            Err(error) => Err(error),
+        },
+        _ => match shelf_of(page.alloc, files, images) {
+            Ok(shelf) => of_image(page, name, shelf.find("all").unwrap_or(&[])),
+            Err(error) => Err(error),
+        },
     }
-    Ok(true)
 }
 
 /// Builds on this thread, or by workers.
 fn build<R: Threads + Wait + Sync, W: Write>(
     rt: &R,
     page: &mut Page<'_, W>,
-    word: &str,
+    name: &str,
     files: &[Vec<u8>],
 ) -> io::Result<()> {
     let program = linked(page.alloc, files)?;
-    page.ask(word)?;
-    let answer = if word == "build_program" {
+    page.ask(name)?;
+    let answer = if name == "build_program" {
         build_program(rt, page.alloc, program, &options(), WORKERS, &Open)
     } else {
         build_program_here(page.alloc, program, &options())
     };
     match answer {
-        Ok(built) => tell_image(page, &built.image),
+        Ok(built) => page.value(objects_in(&built.image)),
         Err(BuildFault::Memory) => page.memory(),
         Err(_) => page.line(&"another fault"),
     }
 }
 
-/// Tells how many objects an image has.
-fn tell_image<W: Write>(page: &mut Page<'_, W>, image: &Image) -> io::Result<()> {
+/// How many objects an image has.
+fn objects_in(image: &Image) -> usize {
     let mut count = 0usize;
     for class in 0..image.program().given_count() {
         count = count.saturating_add(image.object_count(class) as usize);
     }
-    page.value(count)
+    count
 }
 
 /// What is built of classes.
@@ -101,6 +99,16 @@ fn built_of(alloc: Global, files: &[Vec<u8>]) -> io::Result<Built>
         Ok(built) => Ok(built),
         Err(_) => Err(wrong_data()),
     }
+}
+
+/// Renders the report of a build twice.
+fn render_built<W: Write>(page: &mut Page<'_, W>, built: &Built) -> io::Result<bool>
+    requires { GiveWaves built.now.image built.now.verdicts }
+{
+    let text = report_of(page.alloc, built)?;
+    render_again(page, built, &text)?;
+    render_again(page, built, &text)?;
+    Ok(true)
 }
 
 /// The report of a build.
@@ -117,81 +125,70 @@ fn report_of(alloc: Global, built: &Built) -> io::Result<Vec<u8>>
 fn render_again<W: Write>(page: &mut Page<'_, W>, built: &Built, text: &[u8]) -> io::Result<()>
     requires { GiveWaves built.now.image built.now.verdicts }
 {
-    let mut out = Out::new(Compared::new(text));
+    let mut out = Out::new(OneByOne::failing(text, text.len()));
     page.ask("render")?;
     let answer = render(page.alloc, &built.image, &built.verdicts, &mut out);
     tell_sent(page, answer, &out.into_inner())
 }
 
-/// Tells what a write answered, of which nothing went out where memory was refused.
+/// Tells what a write answered, of which nothing more went out where memory was refused.
 fn tell_sent<W: Write>(
     page: &mut Page<'_, W>,
     answer: Result<(), WriteFault>,
-    stream: &Compared<'_>,
+    stream: &OneByOne<'_>,
 ) -> io::Result<()> {
     match answer {
-        Ok(()) if stream.is_whole() => page.value(stream.taken),
+        Ok(()) if stream.is_full() => page.value(stream.taken),
         Err(WriteFault::Memory { sent }) if stream.has(sent as u128) => page.memory(),
         _ => page.line(&"another fault, or other bytes"),
     }
 }
 
-/// The bytes of the image of all classes, the first of a text of images.
-fn first_image(alloc: Global, files: &[Vec<u8>], images: &str) -> io::Result<Vec<u8>> {
-    let Some(body) = images_of(alloc, files, images)?.into_iter().next() else {
-        return Err(wrong_data());
-    };
-    let mut bytes = body;
-    add_digest(&mut bytes)?;
-    Ok(bytes)
-}
-
-/// Makes a call twice on the image of classes of a text, on its bytes, or for its report.
-fn of_image<W: Write>(
-    page: &mut Page<'_, W>,
-    word: &str,
-    text: &str,
-    images: &str,
-) -> io::Result<()> {
-    let files = files_of(page.alloc, text)?;
-    let built = built_of(page.alloc, &files)?;
-    let report = report_of(page.alloc, &built)?;
-    let bytes = first_image(page.alloc, &files, images)?;
-    match read(page.alloc, &bytes) {
-        Ok(image) => ask_twice(page, word, &built, &report, &image, &bytes),
+/// Makes a call twice on an image, or on its bytes.
+fn of_image<W: Write>(page: &mut Page<'_, W>, name: &str, bytes: &[u8]) -> io::Result<bool> {
+    match read(page.alloc, bytes) {
+        Ok(image) => of_read(page, name, &image, bytes),
         Err(_) => Err(wrong_data()),
     }
 }
 
-fn ask_twice<W: Write>(
+fn of_read<W: Write>(
     page: &mut Page<'_, W>,
-    word: &str,
-    built: &Built,
-    report: &[u8],
+    name: &str,
     image: &Image,
     bytes: &[u8],
-) -> io::Result<()>
-    requires waves { GiveWaves built.now.image built.now.verdicts }
-    requires short { AreShort image.now.program.family }
+) -> io::Result<bool>
+    requires { AreShort image.now.program.family }
 {
     let entries = entries_of(page.alloc, "Main,Work")?;
-    for _ in 0..TIMES {
-        match word {
-            "render" => render_again(page, built, report)?,
-            "image_writer::write" => write_image(page, image, bytes)?,
-            "image_reader::read" => read_image(page, bytes)?,
-            "world" => start_at(page, image, &entries)?,
-            "into_world" => start_from(page, bytes, &entries)?,
-            _ => reach_all(page, image)?,
-        }
+    make(page, name, image, bytes, &entries)?;
+    make(page, name, image, bytes, &entries)
+}
+
+fn make<W: Write>(
+    page: &mut Page<'_, W>,
+    name: &str,
+    image: &Image,
+    bytes: &[u8],
+    entries: &[ClassName],
+) -> io::Result<bool>
+    requires { AreShort image.now.program.family }
+{
+    match name {
+        "image_writer::write" => write_image(page, image, bytes)?,
+        "image_reader::read" => read_image(page, bytes)?,
+        "world" => start_at(page, image, entries)?,
+        "into_world" => start_from(page, bytes, entries)?,
+        "reachable" => reach_all(page, image)?,
+        _ => return Ok(false),
     }
-    Ok(())
+    Ok(true)
 }
 
 fn read_image<W: Write>(page: &mut Page<'_, W>, bytes: &[u8]) -> io::Result<()> {
     page.ask("image_reader::read")?;
     match read(page.alloc, bytes) {
-        Ok(image) => tell_image(page, &image),
+        Ok(image) => page.value(objects_in(&image)),
         Err(fault) => page.line(&fault),
     }
 }
@@ -199,7 +196,7 @@ fn read_image<W: Write>(page: &mut Page<'_, W>, bytes: &[u8]) -> io::Result<()> 
 fn write_image<W: Write>(page: &mut Page<'_, W>, image: &Image, bytes: &[u8]) -> io::Result<()>
     requires { AreShort image.now.program.family }
 {
-    let mut out = Out::new(Compared::new(bytes));
+    let mut out = Out::new(OneByOne::failing(bytes, bytes.len()));
     page.ask("image_writer::write")?;
     let answer = write(page.alloc, image, &mut out);
     tell_sent(page, answer, &out.into_inner())

@@ -1,10 +1,11 @@
 //! Inputs are fed to readers, and their answers counted.
 
-use crate::inputs::{Random, Spoiling, spoilt};
-use crate::page::{Page, wrong_data};
-use crate::programs::{files_of, program_of};
-use crate::readers::Reader;
-use cases::spelled;
+use super::inputs::{Random, Spoiling, spoilt};
+use super::page::Page;
+use super::programs::shelf_of;
+use super::readers::Reader;
+use crate::image_bytes::body;
+use crate::shelf::Shelf;
 use program::Program;
 use std::alloc::{AllocError, Global};
 use std::io::{self, Write};
@@ -79,73 +80,56 @@ impl Tally {
     }
 }
 
-/// Feeds the inputs that a word says to its reader, over classes of a text and images that are spelled. Answers
-/// whether there are such inputs.
+/// Feeds the inputs of a name to its reader. Answers whether there are such inputs.
 pub fn feed<W: Write>(
     page: &mut Page<'_, W>,
-    word: &str,
-    text: &str,
+    name: &str,
+    program: &Program,
+    files: &[Vec<u8>],
     images: &str,
 ) -> io::Result<bool> {
-    let Some(("feed", name)) = word.split_once(' ') else {
-        return Ok(false);
-    };
-    let program = program_of(page.alloc, text)?;
-    let files = files_of(page.alloc, text)?;
-    let (reader, good) = match name {
-        "class_files" => (Reader::ClassFiles, files),
-        "images" => (Reader::Images, images_of(page.alloc, &files, images)?),
-        "journals" => (Reader::Journals, inputs_of(page.alloc, &JOURNALS)?),
-        "lists" => (Reader::Lists, inputs_of(page.alloc, &[LIST])?),
-        "entries" => (Reader::Entries, inputs_of(page.alloc, &[ENTRIES])?),
+    match name {
+        "class_files" => feed_all(page, Reader::ClassFiles, program, files)?,
+        "images" => match shelf_of(page.alloc, files, images) {
+            Ok(shelf) => feed_images(page, program, &shelf, images)?,
+            Err(error) => return Err(error),
+        },
+        "journals" => feed_texts(page, Reader::Journals, program, &JOURNALS)?,
+        "lists" => feed_texts(page, Reader::Lists, program, &[LIST])?,
+        "entries" => feed_texts(page, Reader::Entries, program, &[ENTRIES])?,
         _ => return Ok(false),
-    };
-    feed_all(page, reader, &program, &good)?;
+    }
     Ok(true)
 }
 
-/// Inputs of the bytes of these texts.
-fn inputs_of(alloc: Global, texts: &[&str]) -> Result<Vec<Vec<u8>>, AllocError> {
-    let mut inputs = Vec::new(alloc);
-    for text in texts {
-        inputs.push(Vec::from_slice(alloc, text.as_bytes())?)?;
-    }
-    Ok(inputs)
-}
-
-/// Images without their digests, one on each line, in which `file:` and a number stand for the bytes of a class.
-pub fn images_of(alloc: Global, files: &[Vec<u8>], lines: &str) -> io::Result<Vec<Vec<u8>>> {
-    let mut images = Vec::new(alloc);
+/// Feeds the images of a shelf, which lines name, without their digests.
+fn feed_images<W: Write>(
+    page: &mut Page<'_, W>,
+    program: &Program,
+    shelf: &Shelf,
+    lines: &str,
+) -> io::Result<()> {
+    let mut inputs = Vec::new(page.alloc);
     for line in lines.lines() {
-        let image = spelled(alloc, &with_files(alloc, files, line)?)?;
-        if !image.misspelled.is_empty() {
-            return Err(wrong_data());
-        }
-        images.push(image.bytes)?;
+        let (name, _) = line.split_once(' ').unwrap_or((line, ""));
+        let bytes = shelf.find(name).unwrap_or(&[]);
+        inputs.push(Vec::from_slice(page.alloc, body(bytes))?)?;
     }
-    Ok(images)
+    feed_all(page, Reader::Images, program, &inputs)
 }
 
-/// A line with the bytes of classes in their places.
-fn with_files(alloc: Global, files: &[Vec<u8>], line: &str) -> Result<String, AllocError> {
-    let mut text = String::new(alloc);
-    for word in line.split_whitespace() {
-        match word.strip_prefix("file:") {
-            Some(place) => add_file(&mut text, files, place)?,
-            None => write!(text, "{word} ")?,
-        }
+/// Feeds the bytes of texts.
+fn feed_texts<W: Write>(
+    page: &mut Page<'_, W>,
+    reader: Reader,
+    program: &Program,
+    texts: &[&str],
+) -> io::Result<()> {
+    let mut inputs = Vec::new(page.alloc);
+    for text in texts {
+        inputs.push(Vec::from_slice(page.alloc, text.as_bytes())?)?;
     }
-    Ok(text)
-}
-
-fn add_file(text: &mut String, files: &[Vec<u8>], place: &str) -> Result<(), AllocError> {
-    let Some(bytes) = files.get(place.parse::<usize>().unwrap_or(usize::MAX)) else {
-        return text.push_str(place);
-    };
-    for byte in bytes {
-        write!(text, "{byte:02X}")?;
-    }
-    text.push(' ')
+    feed_all(page, reader, program, &inputs)
 }
 
 fn feed_all<W: Write>(

@@ -1,7 +1,8 @@
 //! Calls on class files.
 
-use crate::page::{Page, TIMES, wrong_data};
-use crate::programs::{classes_of, files_of};
+use super::page::Page;
+use super::programs::classes_read;
+use crate::programs::classes_of;
 use bytecode::decode;
 use classfile::{ClassFile, write};
 use program::link;
@@ -9,38 +10,36 @@ use std::alloc::{AllocError, Global};
 use std::io::{self, Write};
 
 /// Makes a call twice over the same things lent. Answers whether it is one of this file.
-pub fn call<W: Write>(page: &mut Page<'_, W>, word: &str, text: &str) -> io::Result<bool> {
-    if !matches!(
-        word,
-        "classfile::read" | "classfile::write" | "decode" | "link"
-    ) {
-        return Ok(false);
-    }
-    let files = files_of(page.alloc, text)?;
-    for _ in 0..TIMES {
-        match word {
-            "classfile::read" => read_all(page, &files)?,
-            "link" => link_read(page, &files)?,
-            _ => {}
+pub fn call<W: Write>(page: &mut Page<'_, W>, name: &str, files: &[Vec<u8>]) -> io::Result<bool> {
+    match classes_read(page.alloc, files) {
+        Ok(classes) => {
+            make(page, name, files, &classes)?;
+            make(page, name, files, &classes)
         }
+        Err(error) => Err(error),
     }
-    let classes = classes_read(page.alloc, &files)?;
-    for _ in 0..TIMES {
-        match word {
-            "classfile::write" => write_all(page, &classes)?,
-            "decode" => decode_all(page, &classes)?,
-            _ => {}
-        }
-    }
-    Ok(true)
 }
 
-/// The classes of files that are class files.
-fn classes_read(alloc: Global, files: &[Vec<u8>]) -> io::Result<Vec<ClassFile>> {
-    match classes_of(alloc, files) {
-        Ok(classes) => Ok(classes),
-        Err(_) => Err(wrong_data()),
+fn make<W: Write>(
+    page: &mut Page<'_, W>,
+    name: &str,
+    files: &[Vec<u8>],
+    classes: &[ClassFile],
+) -> io::Result<bool> {
+    match name {
+        "classfile::read" => read_all(page, files)?,
+        "classfile::write" => {
+            page.ask(name)?;
+            page.number(bytes_in(page.alloc, classes))?;
+        }
+        "decode" => {
+            page.ask(name)?;
+            page.number(instructions_in(page.alloc, classes))?;
+        }
+        "link" => link_read(page, files)?,
+        _ => return Ok(false),
     }
+    Ok(true)
 }
 
 fn read_all<W: Write>(page: &mut Page<'_, W>, files: &[Vec<u8>]) -> io::Result<()> {
@@ -60,14 +59,6 @@ fn link_read<W: Write>(page: &mut Page<'_, W>, files: &[Vec<u8>]) -> io::Result<
     }
 }
 
-fn write_all<W: Write>(page: &mut Page<'_, W>, classes: &[ClassFile]) -> io::Result<()> {
-    page.ask("classfile::write")?;
-    match bytes_in(page.alloc, classes) {
-        Ok(count) => page.value(count),
-        Err(_) => page.memory(),
-    }
-}
-
 /// How many bytes the texts of classes have.
 fn bytes_in(alloc: Global, classes: &[ClassFile]) -> Result<usize, AllocError> {
     let mut count = 0usize;
@@ -75,14 +66,6 @@ fn bytes_in(alloc: Global, classes: &[ClassFile]) -> Result<usize, AllocError> {
         count = count.saturating_add(write(alloc, class)?.len());
     }
     Ok(count)
-}
-
-fn decode_all<W: Write>(page: &mut Page<'_, W>, classes: &[ClassFile]) -> io::Result<()> {
-    page.ask("decode")?;
-    match instructions_in(page.alloc, classes) {
-        Ok(count) => page.value(count),
-        Err(_) => page.memory(),
-    }
 }
 
 /// How many instructions the methods of classes have.

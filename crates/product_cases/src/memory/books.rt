@@ -3,9 +3,9 @@
 ghost use Rattle.std.specs.Prelude.{◌≡◌, ◌<◌, length};
 ghost use Rattle.init_engine.specs.Turns.{world_of};
 
-use crate::page::{Page, TIMES};
-use crate::programs::{program_of, start_of};
-use crate::streams::Compared;
+use super::page::Page;
+use super::programs::start_of;
+use crate::streams::OneByOne;
 use init_engine::World;
 use program::Program;
 use sinks::Out;
@@ -23,14 +23,12 @@ const MANY: u32 = 10_000;
 const PRINTED: &[u8] = b"7\n7\n7\n";
 
 /// Makes a call twice over the same things lent. Answers whether it is one of this file.
-pub fn call<W: Write>(page: &mut Page<'_, W>, word: &str, text: &str) -> io::Result<bool> {
-    if word != "commit" {
+pub fn call<W: Write>(page: &mut Page<'_, W>, name: &str, program: &Program) -> io::Result<bool> {
+    if name != "commit" {
         return Ok(false);
     }
-    let program = program_of(page.alloc, text)?;
-    for _ in 0..TIMES {
-        commit_work(page, &program)?;
-    }
+    commit_work(page, program)?;
+    commit_work(page, program)?;
     Ok(true)
 }
 
@@ -48,13 +46,24 @@ fn commit_in<O: Origin, W: Write>(
     requires start { world_of world ≡ O.start }
 {
     let mut book = Book::<O>::new(page.alloc, world, 10_000);
+    commit_all(page, program, &mut book)?;
+    tell_book(page, &mut book)
+}
+
+fn commit_all<O: Origin, W: Write>(
+    page: &mut Page<'_, W>,
+    program: &Program,
+    book: &mut Book<O>,
+) -> io::Result<()>
+    requires { program.now ≡ O.program }
+{
     page.ask("commit")?;
-    match commit_on(page.alloc, program, &mut book) {
+    match commit_on(page.alloc, program, book) {
         Ok(()) => page.value(0)?,
         Err(_) => page.memory()?,
     }
-    commit_on(page.alloc, program, &mut book)?;
-    tell_book(page, &mut book)
+    commit_on(page.alloc, program, book)?;
+    Ok(())
 }
 
 /// Commits of the first thread up to the first that does not move: each of a stretch over its frames and the classes
@@ -95,10 +104,10 @@ fn commit_one<O: Origin>(
 
 /// Tells the journal of a book, what is seen of its world, and how much of what was printed goes out.
 fn tell_book<O: Origin, W: Write>(page: &mut Page<'_, W>, book: &mut Book<O>) -> io::Result<()> {
-    let mut out = Out::new(Compared::new(PRINTED));
+    let mut out = Out::new(OneByOne::failing(PRINTED, PRINTED.len()));
     page.ask("send")?;
     let answer = book.send(&mut out);
-    if answer.is_ok() && out.into_inner().is_whole() {
+    if answer.is_ok() && out.into_inner().is_full() {
         page.value(book.journal().len())?;
     } else {
         page.line(&"a fault of the sink, or another text")?;

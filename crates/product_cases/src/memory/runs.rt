@@ -1,8 +1,9 @@
 //! Calls that run a thread.
 
-use crate::page::{Page, TIMES, wrong_data};
-use crate::programs::{entries_of, program_of, start_of};
+use super::page::{Page, wrong_data};
+use super::programs::start_of;
 use classfile::ClassName;
+use cli::entries_of;
 use init_engine::starting::lazy_shared;
 use init_engine::{Output, Turn, World, turns};
 use machine::{Effect, Frames, Shared, effect};
@@ -16,19 +17,24 @@ use vm_state::heap::Pool;
 const MANY: u64 = 10_000;
 
 /// Makes a call twice over the same things lent. Answers whether it is one of this file.
-pub fn call<W: Write>(page: &mut Page<'_, W>, word: &str, text: &str) -> io::Result<bool> {
-    if !matches!(word, "World::lazy" | "step" | "turns" | "seen" | "effect") {
-        return Ok(false);
-    }
-    let program = program_of(page.alloc, text)?;
+pub fn call<W: Write>(page: &mut Page<'_, W>, name: &str, program: &Program) -> io::Result<bool> {
     let entries = entries_of(page.alloc, "Main,Work,Main")?;
-    for _ in 0..TIMES {
-        match word {
-            "World::lazy" => start_at(page, &program, &entries)?,
-            "step" => step_main(page, &program)?,
-            "effect" => effect_plain(page, &program)?,
-            _ => turn_main(page, word, &program)?,
-        }
+    make(page, name, program, &entries)?;
+    make(page, name, program, &entries)
+}
+
+fn make<W: Write>(
+    page: &mut Page<'_, W>,
+    name: &str,
+    program: &Program,
+    entries: &[ClassName],
+) -> io::Result<bool> {
+    match name {
+        "World::lazy" => start_at(page, program, entries)?,
+        "step" => step_main(page, program)?,
+        "effect" => effect_plain(page, program)?,
+        "turns" | "seen" => turn_main(page, name, program)?,
+        _ => return Ok(false),
     }
     Ok(true)
 }
@@ -48,14 +54,24 @@ fn start_at<W: Write>(
 /// Steps of a thread. Where memory is refused, the world and how many steps it has taken are as before that one: those
 /// that are left lead to the same.
 fn step_main<W: Write>(page: &mut Page<'_, W>, program: &Program) -> io::Result<()> {
-    let mut world = start_of(page.alloc, program, "Main")?;
+    match start_of(page.alloc, program, "Main") {
+        Ok(mut world) => step_from(page, program, &mut world),
+        Err(error) => Err(error),
+    }
+}
+
+fn step_from<W: Write>(
+    page: &mut Page<'_, W>,
+    program: &Program,
+    world: &mut World,
+) -> io::Result<()> {
     let mut count = 0u64;
     page.ask("step")?;
-    match step_on(page.alloc, program, &mut world, &mut count) {
+    match step_on(page.alloc, program, world, &mut count) {
         Ok(()) => page.value(0)?,
         Err(_) => page.memory()?,
     }
-    step_on(page.alloc, program, &mut world, &mut count)?;
+    step_on(page.alloc, program, world, &mut count)?;
     page.line(&count)?;
     page.seen(&world.endings(page.alloc)?, world.printed())
 }
@@ -80,13 +96,13 @@ fn step_on(
 }
 
 /// The turns of two threads, or what is seen after them.
-fn turn_main<W: Write>(page: &mut Page<'_, W>, word: &str, program: &Program) -> io::Result<()> {
+fn turn_main<W: Write>(page: &mut Page<'_, W>, name: &str, program: &Program) -> io::Result<()> {
     let world = start_of(page.alloc, program, "Main,Work")?;
-    if word == "turns" {
+    if name == "turns" {
         page.ask("turns")?;
     }
     match turns(page.alloc, program, world, MANY) {
-        Ok((_, schedule)) if word == "turns" => page.value(schedule.len()),
+        Ok((_, schedule)) if name == "turns" => page.value(schedule.len()),
         Ok((world, _)) => see_world(page, world),
         Err(_) => page.memory(),
     }
@@ -127,16 +143,37 @@ fn frames_at_main(alloc: Global, program: &Program) -> io::Result<Frames> {
 
 /// Instructions of a thread. Where memory is refused, all is as before that one: those that are left print the same.
 fn effect_plain<W: Write>(page: &mut Page<'_, W>, program: &Program) -> io::Result<()> {
-    let mut frames = frames_at_main(page.alloc, program)?;
+    match frames_at_main(page.alloc, program) {
+        Ok(mut frames) => effect_from(page, program, &mut frames),
+        Err(error) => Err(error),
+    }
+}
+
+fn effect_from<W: Write>(
+    page: &mut Page<'_, W>,
+    program: &Program,
+    frames: &mut Frames,
+) -> io::Result<()> {
     let mut shared = initialized(page.alloc, program)?;
     let mut printed = Output::new(page.alloc);
+    effect_on(page, program, frames, &mut shared, &mut printed)?;
+    page.seen(&[], &printed)
+}
+
+fn effect_on<W: Write>(
+    page: &mut Page<'_, W>,
+    program: &Program,
+    frames: &mut Frames,
+    shared: &mut Shared,
+    printed: &mut Output,
+) -> io::Result<()> {
     page.ask("effect")?;
-    match effects(page.alloc, program, &mut frames, &mut shared, &mut printed) {
+    match effects(page.alloc, program, frames, shared, printed) {
         Ok(()) => page.value(0)?,
         Err(_) => page.memory()?,
     }
-    effects(page.alloc, program, &mut frames, &mut shared, &mut printed)?;
-    page.seen(&[], &printed)
+    effects(page.alloc, program, frames, shared, printed)?;
+    Ok(())
 }
 
 /// Instructions of a thread, up to one that ends it or that it can't do.

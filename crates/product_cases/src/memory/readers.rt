@@ -1,13 +1,14 @@
 //! What readers answer to inputs: a value, or a fault of a name.
 
-use crate::files::instructions_in;
-use crate::programs::{entries_of, start_of};
+use super::files::instructions_in;
+use super::programs::start_of;
+use crate::shelf::add_digest;
 use classfile::ClassFile;
+use cli::entries_of;
 use init_engine::World;
 use journal::{Journal, JournalFault};
 use options::{force, parse};
 use program::{Program, link};
-use sha2::{Digest, Sha256};
 use std::alloc::{AllocError, Global};
 use std::str::from_utf8;
 use thread_runner::replay::{ReplayFault, replay};
@@ -71,14 +72,6 @@ fn of_class(alloc: Global, class: ClassFile) -> Result<String, AllocError> {
         Ok(_) => String::from_str(alloc, "linked"),
         Err(fault) => fault.to_string(alloc),
     }
-}
-
-/// Adds the digest of what stands before.
-pub fn add_digest(bytes: &mut Vec<u8>) -> Result<(), AllocError> {
-    let mut hasher = Sha256::new();
-    hasher.update(bytes.as_slice());
-    let digest = hasher.finalize();
-    bytes.extend_from_slice(&digest)
 }
 
 fn of_image(alloc: Global, bytes: &[u8]) -> Result<String, AllocError> {

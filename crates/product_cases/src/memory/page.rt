@@ -1,12 +1,9 @@
 //! The page on which calls and their answers are written.
 
 use init_engine::{Ending, Output};
-use std::alloc::Global;
+use std::alloc::{AllocError, Global};
 use std::fmt::Display;
 use std::io::{self, ErrorKind, Write};
-
-/// How often each call is made over the same things lent. To the first something may be refused.
-pub const TIMES: u32 = 2;
 
 /// Where lines go: each has the name of a call, `: ` and what it answered.
 #[derive(Drop)]
@@ -28,6 +25,14 @@ impl<'a, W: Write> Page<'a, W> {
     /// Ends the line of a call that answered a value, of which a number is told.
     pub fn value(&mut self, number: usize) -> io::Result<()> {
         writeln!(self.out, "Ok {number}")
+    }
+
+    /// Ends the line of a call that answered a number, or was refused memory.
+    pub fn number(&mut self, answer: Result<usize, AllocError>) -> io::Result<()> {
+        match answer {
+            Ok(number) => self.value(number),
+            Err(_) => self.memory(),
+        }
     }
 
     /// Ends the line of a call that was refused memory.

@@ -2,9 +2,8 @@
 
 ghost use Rattle.std.specs.Prelude.{◌≡◌, length};
 
-use crate::page::{Page, TIMES, wrong_data};
-use crate::programs::program_of;
-use crate::verdicts::settled_of;
+use super::page::{Page, wrong_data};
+use super::verdicts::settled_of;
 use initializer_analysis::forced::Forced;
 use options::{Demand, Patterns, check, demand, force, parse};
 use program::Program;
@@ -21,22 +20,27 @@ const DEMANDED: &str = "W,I,Point";
 const UNMET: &str = "Log";
 
 /// Makes a call twice over the same things lent. Answers whether it is one of this file.
-pub fn call<W: Write>(page: &mut Page<'_, W>, word: &str, text: &str) -> io::Result<bool> {
-    if !matches!(word, "options::parse" | "force" | "demand" | "check") {
-        return Ok(false);
-    }
-    let program = program_of(page.alloc, text)?;
-    let forcing = patterns_of(page.alloc, FORCED)?;
-    let demanding = patterns_of(page.alloc, DEMANDED)?;
-    let settled = settled_of(page.alloc, &program)?;
-    let unmet = demanded(page.alloc, &program)?;
-    for _ in 0..TIMES {
-        match word {
-            "options::parse" => parse_list(page)?,
-            "force" => force_list(page, &program, &forcing)?,
-            "demand" => demand_list(page, &program, &demanding)?,
-            _ => check_demand(page, &program, &settled, &unmet)?,
+pub fn call<W: Write>(page: &mut Page<'_, W>, name: &str, program: &Program) -> io::Result<bool> {
+    match name {
+        "options::parse" => {
+            parse_list(page)?;
+            parse_list(page)?;
         }
+        "force" => {
+            let forcing = patterns_of(page.alloc, FORCED)?;
+            force_list(page, program, &forcing)?;
+            force_list(page, program, &forcing)?;
+        }
+        "demand" => {
+            let demanding = patterns_of(page.alloc, DEMANDED)?;
+            demand_list(page, program, &demanding)?;
+            demand_list(page, program, &demanding)?;
+        }
+        "check" => match settled_of(page.alloc, program) {
+            Ok(settled) => check_unmet(page, program, &settled)?,
+            Err(error) => return Err(error),
+        },
+        _ => return Ok(false),
     }
     Ok(true)
 }
@@ -107,6 +111,18 @@ fn demand_list<W: Write>(
         }
         Err(fault) => page.line(&fault),
     }
+}
+
+fn check_unmet<W: Write>(
+    page: &mut Page<'_, W>,
+    program: &Program,
+    settled: &Settled,
+) -> io::Result<()>
+    requires { length settled.now.verdicts ≡ length program.now.classes }
+{
+    let unmet = demanded(page.alloc, program)?;
+    check_demand(page, program, settled, &unmet)?;
+    check_demand(page, program, settled, &unmet)
 }
 
 /// The class that is demanded is not accepted, and its name takes memory.
