@@ -10,7 +10,7 @@ use init_engine::World;
 use program::Program;
 use sinks::Out;
 use std::alloc::{AllocError, Global};
-use std::io::{self, Write};
+use std::io::Write;
 use std::marker::Brand;
 use thread_runner::origin::Origin;
 use thread_runner::running::stretch;
@@ -22,48 +22,42 @@ const MANY: u32 = 10_000;
 /// What the thread prints.
 const PRINTED: &[u8] = b"7\n7\n7\n";
 
-/// Makes a call twice over the same things lent. Answers whether it is one of this file.
-pub fn call<W: Write>(page: &mut Page<'_, W>, name: &str, program: &Program) -> io::Result<bool> {
+/// Makes a call twice over the same things lent.
+pub fn call<W: Write>(page: &mut Page<'_, W>, name: &str, program: &Program) {
     if name != "commit" {
-        return Ok(false);
+        return page.give_up();
     }
-    commit_work(page, program)?;
-    commit_work(page, program)?;
-    Ok(true)
+    commit_work(page, program);
+    commit_work(page, program);
 }
 
-fn commit_work<W: Write>(page: &mut Page<'_, W>, program: &Program) -> io::Result<()> {
-    let world = start_of(page.alloc, program, "Work")?;
+fn commit_work<W: Write>(page: &mut Page<'_, W>, program: &Program) {
+    let Some(world) = start_of(page.alloc, program, "Work") else {
+        return page.give_up();
+    };
     commit_in::<Brand, W>(page, program, world)
 }
 
-fn commit_in<O: Origin, W: Write>(
-    page: &mut Page<'_, W>,
-    program: &Program,
-    world: World,
-) -> io::Result<()>
+fn commit_in<O: Origin, W: Write>(page: &mut Page<'_, W>, program: &Program, world: World)
     requires program { program.now ≡ O.program }
     requires start { world_of world ≡ O.start }
 {
     let mut book = Book::<O>::new(page.alloc, world, 10_000);
-    commit_all(page, program, &mut book)?;
+    commit_all(page, program, &mut book);
     tell_book(page, &mut book)
 }
 
-fn commit_all<O: Origin, W: Write>(
-    page: &mut Page<'_, W>,
-    program: &Program,
-    book: &mut Book<O>,
-) -> io::Result<()>
+fn commit_all<O: Origin, W: Write>(page: &mut Page<'_, W>, program: &Program, book: &mut Book<O>)
     requires { program.now ≡ O.program }
 {
-    page.ask("commit")?;
+    page.ask("commit");
     match commit_on(page.alloc, program, book) {
-        Ok(()) => page.value(0)?,
-        Err(_) => page.memory()?,
+        Ok(()) => page.value(0),
+        Err(_) => page.memory(),
     }
-    commit_on(page.alloc, program, book)?;
-    Ok(())
+    if commit_on(page.alloc, program, book).is_err() {
+        page.give_up();
+    }
 }
 
 /// Commits of the first thread up to the first that does not move: each of a stretch over its frames and the classes
@@ -103,14 +97,14 @@ fn commit_one<O: Origin>(
 }
 
 /// Tells the journal of a book, what is seen of its world, and how much of what was printed goes out.
-fn tell_book<O: Origin, W: Write>(page: &mut Page<'_, W>, book: &mut Book<O>) -> io::Result<()> {
+fn tell_book<O: Origin, W: Write>(page: &mut Page<'_, W>, book: &mut Book<O>) {
     let mut out = Out::new(OneByOne::failing(PRINTED, PRINTED.len()));
-    page.ask("send")?;
+    page.ask("send");
     let answer = book.send(&mut out);
     if answer.is_ok() && out.into_inner().is_full() {
-        page.value(book.journal().len())?;
+        page.value(book.journal().len());
     } else {
-        page.line(&"a fault of the sink, or another text")?;
+        page.line(&"a fault of the sink, or another text");
     }
-    page.seen(&book.world().endings(page.alloc)?, book.world().printed())
+    page.world(book.world());
 }

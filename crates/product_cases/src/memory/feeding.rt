@@ -8,7 +8,7 @@ use crate::image_bytes::body;
 use crate::shelf::Shelf;
 use program::Program;
 use std::alloc::{AllocError, Global};
-use std::io::{self, Write};
+use std::io::Write;
 
 /// How many random inputs each reader gets, and how long the longest is.
 const RANDOM_INPUTS: u32 = 1_000;
@@ -80,103 +80,110 @@ impl Tally {
     }
 }
 
-/// Feeds the inputs of a name to its reader. Answers whether there are such inputs.
+/// Feeds the inputs of a name to its reader.
 pub fn feed<W: Write>(
     page: &mut Page<'_, W>,
     name: &str,
     program: &Program,
     files: &[Vec<u8>],
     images: &str,
-) -> io::Result<bool> {
+) {
     match name {
-        "class_files" => feed_all(page, Reader::ClassFiles, program, files)?,
+        "class_files" => feed_all(page, Reader::ClassFiles, program, files),
         "images" => match shelf_of(page.alloc, files, images) {
-            Ok(shelf) => feed_images(page, program, &shelf, images)?,
-            Err(error) => return Err(error),
+            Some(shelf) => feed_images(page, program, &shelf, images),
+            None => page.give_up(),
         },
-        "journals" => feed_texts(page, Reader::Journals, program, &JOURNALS)?,
-        "lists" => feed_texts(page, Reader::Lists, program, &[LIST])?,
-        "entries" => feed_texts(page, Reader::Entries, program, &[ENTRIES])?,
-        _ => return Ok(false),
+        "journals" => feed_texts(page, Reader::Journals, program, &JOURNALS),
+        "lists" => feed_texts(page, Reader::Lists, program, &[LIST]),
+        "entries" => feed_texts(page, Reader::Entries, program, &[ENTRIES]),
+        _ => page.give_up(),
     }
-    Ok(true)
 }
 
-/// Feeds the images of a shelf, which lines name, without their digests.
-fn feed_images<W: Write>(
-    page: &mut Page<'_, W>,
-    program: &Program,
-    shelf: &Shelf,
-    lines: &str,
-) -> io::Result<()> {
-    let mut inputs = Vec::new(page.alloc);
+/// Feeds the images of a shelf, which lines name.
+fn feed_images<W: Write>(page: &mut Page<'_, W>, program: &Program, shelf: &Shelf, lines: &str) {
+    match images_of(page.alloc, shelf, lines) {
+        Ok(images) => feed_all(page, Reader::Images, program, &images),
+        Err(_) => page.give_up(),
+    }
+}
+
+/// The images without their digests.
+fn images_of(alloc: Global, shelf: &Shelf, lines: &str) -> Result<Vec<Vec<u8>>, AllocError> {
+    let mut images = Vec::new(alloc);
     for line in lines.lines() {
         let (name, _) = line.split_once(' ').unwrap_or((line, ""));
         let bytes = shelf.find(name).unwrap_or(&[]);
-        inputs.push(Vec::from_slice(page.alloc, body(bytes))?)?;
+        images.push(Vec::from_slice(alloc, body(bytes))?)?;
     }
-    feed_all(page, Reader::Images, program, &inputs)
+    Ok(images)
 }
 
-/// Feeds the bytes of texts.
-fn feed_texts<W: Write>(
-    page: &mut Page<'_, W>,
-    reader: Reader,
-    program: &Program,
-    texts: &[&str],
-) -> io::Result<()> {
-    let mut inputs = Vec::new(page.alloc);
+fn feed_texts<W: Write>(page: &mut Page<'_, W>, reader: Reader, program: &Program, texts: &[&str]) {
+    match inputs_of(page.alloc, texts) {
+        Ok(inputs) => feed_all(page, reader, program, &inputs),
+        Err(_) => page.give_up(),
+    }
+}
+
+/// Inputs of the bytes of these texts.
+fn inputs_of(alloc: Global, texts: &[&str]) -> Result<Vec<Vec<u8>>, AllocError> {
+    let mut inputs = Vec::new(alloc);
     for text in texts {
-        inputs.push(Vec::from_slice(page.alloc, text.as_bytes())?)?;
+        inputs.push(Vec::from_slice(alloc, text.as_bytes())?)?;
     }
-    feed_all(page, reader, program, &inputs)
+    Ok(inputs)
 }
 
-fn feed_all<W: Write>(
+fn feed_all<W: Write>(page: &mut Page<'_, W>, reader: Reader, program: &Program, good: &[Vec<u8>]) {
+    let turned = Spoiling::Turned(0xFF);
+    let off_by_one = Spoiling::Turned(1);
+    feed_made(page, reader, program, good, Some(Spoiling::Cut), "cut");
+    feed_made(page, reader, program, good, Some(turned), "turned");
+    feed_made(page, reader, program, good, Some(off_by_one), "off by one");
+    feed_made(page, reader, program, good, None, "random");
+}
+
+/// Feeds good inputs, and each of them spoilt at each place; or random ones.
+fn feed_made<W: Write>(
     page: &mut Page<'_, W>,
     reader: Reader,
     program: &Program,
     good: &[Vec<u8>],
-) -> io::Result<()> {
-    feed_spoilt(page, reader, program, good, Spoiling::Cut, "cut")?;
-    feed_spoilt(
-        page,
-        reader,
-        program,
-        good,
-        Spoiling::Turned(0xFF),
-        "turned",
-    )?;
-    feed_spoilt(
-        page,
-        reader,
-        program,
-        good,
-        Spoiling::Turned(1),
-        "off by one",
-    )?;
-    feed_random(page, reader, program, good)
-}
-
-/// Feeds good inputs, and each of them spoilt at each place.
-fn feed_spoilt<W: Write>(
-    page: &mut Page<'_, W>,
-    reader: Reader,
-    program: &Program,
-    good: &[Vec<u8>],
-    spoiling: Spoiling,
+    spoiling: Option<Spoiling>,
     how: &str,
-) -> io::Result<()> {
+) {
     let name = reader.name();
-    let line = format!(in page.alloc; "{name}, {how}")?;
-    let mut tally = Tally::new(page.alloc);
-    page.ask(&line)?;
-    for bytes in good {
-        count_spoilt(page.alloc, reader, program, bytes, spoiling, &mut tally)?;
+    let Ok(line) = format!(in page.alloc; "{name}, {how}") else {
+        return page.give_up();
+    };
+    page.ask(&line);
+    match counts_of(page.alloc, reader, program, good, spoiling) {
+        Ok(text) => page.line(&text),
+        Err(_) => page.give_up(),
     }
-    page.line(&tally.text()?)
 }
 
+/// The counts of a reader's answers.
+fn counts_of(
+    alloc: Global,
+    reader: Reader,
+    program: &Program,
+    good: &[Vec<u8>],
+    spoiling: Option<Spoiling>,
+) -> Result<String, AllocError> {
+    let mut tally = Tally::new(alloc);
+    for bytes in good {
+        match spoiling {
+            Some(spoiling) => count_spoilt(alloc, reader, program, bytes, spoiling, &mut tally)?,
+            None => count_random(alloc, reader, program, bytes, &mut tally)?,
+        }
+    }
+    tally.text()
+}
+
+/// Counts the answers to a good input, and to it spoilt at each place.
 fn count_spoilt(
     alloc: Global,
     reader: Reader,
@@ -193,23 +200,7 @@ fn count_spoilt(
     Ok(())
 }
 
-fn feed_random<W: Write>(
-    page: &mut Page<'_, W>,
-    reader: Reader,
-    program: &Program,
-    good: &[Vec<u8>],
-) -> io::Result<()> {
-    let name = reader.name();
-    let line = format!(in page.alloc; "{name}, random")?;
-    let mut tally = Tally::new(page.alloc);
-    page.ask(&line)?;
-    for bytes in good {
-        count_random(page.alloc, reader, program, bytes, &mut tally)?;
-    }
-    page.line(&tally.text()?)
-}
-
-/// Feeds beginnings of a good input with random bytes after them, and random bytes alone.
+/// Counts the answers to beginnings of a good input with random bytes after them, and random bytes alone.
 fn count_random(
     alloc: Global,
     reader: Reader,

@@ -1,58 +1,51 @@
 //! Calls on class files.
 
 use super::page::Page;
-use super::programs::classes_read;
 use crate::programs::classes_of;
 use bytecode::decode;
 use classfile::{ClassFile, write};
 use program::link;
 use std::alloc::{AllocError, Global};
-use std::io::{self, Write};
+use std::io::Write;
 
-/// Makes a call twice over the same things lent. Answers whether it is one of this file.
-pub fn call<W: Write>(page: &mut Page<'_, W>, name: &str, files: &[Vec<u8>]) -> io::Result<bool> {
-    match classes_read(page.alloc, files) {
-        Ok(classes) => {
-            make(page, name, files, &classes)?;
-            make(page, name, files, &classes)
-        }
-        Err(error) => Err(error),
-    }
+/// Makes a call twice over the same things lent.
+pub fn call<W: Write>(page: &mut Page<'_, W>, name: &str, files: &[Vec<u8>]) {
+    let Ok(classes) = classes_of(page.alloc, files) else {
+        return page.give_up();
+    };
+    make(page, name, files, &classes);
+    make(page, name, files, &classes);
 }
 
-fn make<W: Write>(
-    page: &mut Page<'_, W>,
-    name: &str,
-    files: &[Vec<u8>],
-    classes: &[ClassFile],
-) -> io::Result<bool> {
+fn make<W: Write>(page: &mut Page<'_, W>, name: &str, files: &[Vec<u8>], classes: &[ClassFile]) {
     match name {
-        "classfile::read" => read_all(page, files)?,
+        "classfile::read" => read_all(page, files),
         "classfile::write" => {
-            page.ask(name)?;
-            page.number(bytes_in(page.alloc, classes))?;
+            page.ask(name);
+            page.number(bytes_in(page.alloc, classes));
         }
         "decode" => {
-            page.ask(name)?;
-            page.number(instructions_in(page.alloc, classes))?;
+            page.ask(name);
+            page.number(instructions_in(page.alloc, classes));
         }
-        "link" => link_read(page, files)?,
-        _ => return Ok(false),
+        "link" => link_read(page, files),
+        _ => page.give_up(),
     }
-    Ok(true)
 }
 
-fn read_all<W: Write>(page: &mut Page<'_, W>, files: &[Vec<u8>]) -> io::Result<()> {
-    page.ask("classfile::read")?;
+fn read_all<W: Write>(page: &mut Page<'_, W>, files: &[Vec<u8>]) {
+    page.ask("classfile::read");
     match classes_of(page.alloc, files) {
         Ok(classes) => page.value(classes.len()),
         Err(fault) => page.line(&fault),
     }
 }
 
-fn link_read<W: Write>(page: &mut Page<'_, W>, files: &[Vec<u8>]) -> io::Result<()> {
-    let classes = classes_read(page.alloc, files)?;
-    page.ask("link")?;
+fn link_read<W: Write>(page: &mut Page<'_, W>, files: &[Vec<u8>]) {
+    let Ok(classes) = classes_of(page.alloc, files) else {
+        return page.give_up();
+    };
+    page.ask("link");
     match link(page.alloc, classes) {
         Ok(program) => page.value(program.given_count() as usize),
         Err(fault) => page.line(&fault),

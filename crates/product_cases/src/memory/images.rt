@@ -4,7 +4,7 @@ ghost use Rattle.std.specs.Prelude.{◌≡◌, IfOk};
 ghost use Rattle.image_format.specs.Images.{AreShort};
 ghost use Rattle.report.specs.Waves.{GiveWaves};
 
-use super::page::{Page, wrong_data};
+use super::page::Page;
 use super::programs::{linked, shelf_of};
 use crate::streams::OneByOne;
 use building::{BuildFault, BuildOptions, Built, build_program, build_program_here};
@@ -15,8 +15,7 @@ use image_writer::{WriteFault, write};
 use object_graph::{Image, reachable};
 use report::render;
 use sinks::Out;
-use std::alloc::Global;
-use std::io;
+use std::alloc::{AllocError, Global};
 use std::io::Write;
 use std::sync::Wait;
 use std::thread::Threads;
@@ -36,27 +35,26 @@ fn options() -> BuildOptions<'static>
     }
 }
 
-/// Makes a call twice over the same things lent. Answers whether it is one of this file.
+/// Makes a call twice over the same things lent.
 pub fn call<R: Threads + Wait + Sync, W: Write>(
     rt: &R,
     page: &mut Page<'_, W>,
     name: &str,
     files: &[Vec<u8>],
     images: &str,
-) -> io::Result<bool> {
+) {
     match name {
         "build_program_here" | "build_program" => {
-            build(rt, page, name, files)?;
-            build(rt, page, name, files)?;
-            Ok(true)
+            build(rt, page, name, files);
+            build(rt, page, name, files);
         }
         "render" => match built_of(page.alloc, files) {
-            Ok(built) => render_built(page, &built),
-            Err(error) => Err(error),
+            Ok(built) => render_twice(page, &built),
+            Err(_) => page.give_up(),
         },
         _ => match shelf_of(page.alloc, files, images) {
-            Ok(shelf) => of_image(page, name, shelf.find("all").unwrap_or(&[])),
-            Err(error) => Err(error),
+            Some(shelf) => of_image(page, name, shelf.find("all").unwrap_or(&[])),
+            None => page.give_up(),
         },
     }
 }
@@ -67,9 +65,11 @@ fn build<R: Threads + Wait + Sync, W: Write>(
     page: &mut Page<'_, W>,
     name: &str,
     files: &[Vec<u8>],
-) -> io::Result<()> {
-    let program = linked(page.alloc, files)?;
-    page.ask(name)?;
+) {
+    let Some(program) = linked(page.alloc, files) else {
+        return page.give_up();
+    };
+    page.ask(name);
     let answer = if name == "build_program" {
         build_program(rt, page.alloc, program, &options(), WORKERS, &Open)
     } else {
@@ -92,41 +92,45 @@ fn objects_in(image: &Image) -> usize {
 }
 
 /// What is built of classes.
-fn built_of(alloc: Global, files: &[Vec<u8>]) -> io::Result<Built>
+fn built_of(alloc: Global, files: &[Vec<u8>]) -> Result<Built, AllocError>
     ensures { IfOk result (λ built. GiveWaves built.image built.verdicts) }
 {
-    match build_program_here(alloc, linked(alloc, files)?, &options()) {
+    let Some(program) = linked(alloc, files) else {
+        return Err(AllocError);
+    };
+    match build_program_here(alloc, program, &options()) {
         Ok(built) => Ok(built),
-        Err(_) => Err(wrong_data()),
+        Err(_) => Err(AllocError),
     }
 }
 
 /// Renders the report of a build twice.
-fn render_built<W: Write>(page: &mut Page<'_, W>, built: &Built) -> io::Result<bool>
+fn render_twice<W: Write>(page: &mut Page<'_, W>, built: &Built)
     requires { GiveWaves built.now.image built.now.verdicts }
 {
-    let text = report_of(page.alloc, built)?;
-    render_again(page, built, &text)?;
-    render_again(page, built, &text)?;
-    Ok(true)
+    let Some(text) = report_of(page.alloc, built) else {
+        return page.give_up();
+    };
+    render_again(page, built, &text);
+    render_again(page, built, &text);
 }
 
 /// The report of a build.
-fn report_of(alloc: Global, built: &Built) -> io::Result<Vec<u8>>
+fn report_of(alloc: Global, built: &Built) -> Option<Vec<u8>>
     requires { GiveWaves built.now.image built.now.verdicts }
 {
     let mut bytes = Out::new(Vec::new(alloc));
     match render(alloc, &built.image, &built.verdicts, &mut bytes) {
-        Ok(()) => Ok(bytes.into_inner()),
-        Err(_) => Err(wrong_data()),
+        Ok(()) => Some(bytes.into_inner()),
+        Err(_) => None,
     }
 }
 
-fn render_again<W: Write>(page: &mut Page<'_, W>, built: &Built, text: &[u8]) -> io::Result<()>
+fn render_again<W: Write>(page: &mut Page<'_, W>, built: &Built, text: &[u8])
     requires { GiveWaves built.now.image built.now.verdicts }
 {
     let mut out = Out::new(OneByOne::failing(text, text.len()));
-    page.ask("render")?;
+    page.ask("render");
     let answer = render(page.alloc, &built.image, &built.verdicts, &mut out);
     tell_sent(page, answer, &out.into_inner())
 }
@@ -136,7 +140,7 @@ fn tell_sent<W: Write>(
     page: &mut Page<'_, W>,
     answer: Result<(), WriteFault>,
     stream: &OneByOne<'_>,
-) -> io::Result<()> {
+) {
     match answer {
         Ok(()) if stream.is_full() => page.value(stream.taken),
         Err(WriteFault::Memory { sent }) if stream.has(sent as u128) => page.memory(),
@@ -145,24 +149,21 @@ fn tell_sent<W: Write>(
 }
 
 /// Makes a call twice on an image, or on its bytes.
-fn of_image<W: Write>(page: &mut Page<'_, W>, name: &str, bytes: &[u8]) -> io::Result<bool> {
+fn of_image<W: Write>(page: &mut Page<'_, W>, name: &str, bytes: &[u8]) {
     match read(page.alloc, bytes) {
         Ok(image) => of_read(page, name, &image, bytes),
-        Err(_) => Err(wrong_data()),
+        Err(_) => page.give_up(),
     }
 }
 
-fn of_read<W: Write>(
-    page: &mut Page<'_, W>,
-    name: &str,
-    image: &Image,
-    bytes: &[u8],
-) -> io::Result<bool>
+fn of_read<W: Write>(page: &mut Page<'_, W>, name: &str, image: &Image, bytes: &[u8])
     requires { AreShort image.now.program.family }
 {
-    let entries = entries_of(page.alloc, "Main,Work")?;
-    make(page, name, image, bytes, &entries)?;
-    make(page, name, image, bytes, &entries)
+    let Ok(entries) = entries_of(page.alloc, "Main,Work") else {
+        return page.give_up();
+    };
+    make(page, name, image, bytes, &entries);
+    make(page, name, image, bytes, &entries);
 }
 
 fn make<W: Write>(
@@ -171,74 +172,61 @@ fn make<W: Write>(
     image: &Image,
     bytes: &[u8],
     entries: &[ClassName],
-) -> io::Result<bool>
+)
     requires { AreShort image.now.program.family }
 {
     match name {
-        "image_writer::write" => write_image(page, image, bytes)?,
-        "image_reader::read" => read_image(page, bytes)?,
-        "world" => start_at(page, image, entries)?,
-        "into_world" => start_from(page, bytes, entries)?,
-        "reachable" => reach_all(page, image)?,
-        _ => return Ok(false),
+        "image_writer::write" => write_image(page, image, bytes),
+        "image_reader::read" => read_image(page, bytes),
+        "world" => start_at(page, image, entries),
+        "into_world" => start_from(page, bytes, entries),
+        "reachable" => reach_all(page, image),
+        _ => page.give_up(),
     }
-    Ok(true)
 }
 
-fn read_image<W: Write>(page: &mut Page<'_, W>, bytes: &[u8]) -> io::Result<()> {
-    page.ask("image_reader::read")?;
+fn read_image<W: Write>(page: &mut Page<'_, W>, bytes: &[u8]) {
+    page.ask("image_reader::read");
     match read(page.alloc, bytes) {
         Ok(image) => page.value(objects_in(&image)),
         Err(fault) => page.line(&fault),
     }
 }
 
-fn write_image<W: Write>(page: &mut Page<'_, W>, image: &Image, bytes: &[u8]) -> io::Result<()>
+fn write_image<W: Write>(page: &mut Page<'_, W>, image: &Image, bytes: &[u8])
     requires { AreShort image.now.program.family }
 {
     let mut out = Out::new(OneByOne::failing(bytes, bytes.len()));
-    page.ask("image_writer::write")?;
+    page.ask("image_writer::write");
     let answer = write(page.alloc, image, &mut out);
     tell_sent(page, answer, &out.into_inner())
 }
 
-fn start_at<W: Write>(
-    page: &mut Page<'_, W>,
-    image: &Image,
-    entries: &[ClassName],
-) -> io::Result<()> {
-    page.ask("world")?;
+fn start_at<W: Write>(page: &mut Page<'_, W>, image: &Image, entries: &[ClassName]) {
+    page.ask("world");
     match world(page.alloc, image, entries) {
         Ok(start) => page.value(start.thread_count() as usize),
         Err(fault) => page.line(&fault),
     }
 }
 
-fn start_from<W: Write>(
-    page: &mut Page<'_, W>,
-    bytes: &[u8],
-    entries: &[ClassName],
-) -> io::Result<()> {
+fn start_from<W: Write>(page: &mut Page<'_, W>, bytes: &[u8], entries: &[ClassName]) {
     match read(page.alloc, bytes) {
         Ok(image) => start_by_moving(page, image, entries),
-        Err(_) => Err(wrong_data()),
+        Err(_) => page.give_up(),
     }
 }
 
-fn start_by_moving<W: Write>(
-    page: &mut Page<'_, W>,
-    image: Image,
-    entries: &[ClassName],
-) -> io::Result<()> {
-    page.ask("into_world")?;
+fn start_by_moving<W: Write>(page: &mut Page<'_, W>, image: Image, entries: &[ClassName]) {
+    page.ask("into_world");
     match into_world(page.alloc, image, entries) {
         Ok((_, start)) => page.value(start.thread_count() as usize),
         Err(fault) => page.line(&fault),
     }
 }
 
-fn reach_all<W: Write>(page: &mut Page<'_, W>, image: &Image) -> io::Result<()> {
-    page.ask("reachable")?;
+fn reach_all<W: Write>(page: &mut Page<'_, W>, image: &Image) {
+    page.ask("reachable");
     match reachable(page.alloc, image) {
         Ok(names) => page.value(names.len()),
         Err(_) => page.memory(),

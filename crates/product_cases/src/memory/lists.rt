@@ -2,13 +2,13 @@
 
 ghost use Rattle.std.specs.Prelude.{◌≡◌, length};
 
-use super::page::{Page, wrong_data};
+use super::page::Page;
 use super::verdicts::settled_of;
 use initializer_analysis::forced::Forced;
-use options::{Demand, Patterns, check, demand, force, parse};
+use options::{Demand, OptionFault, Patterns, check, demand, force, parse};
 use program::Program;
 use std::alloc::Global;
-use std::io::{self, Write};
+use std::io::Write;
 use wave_scheduler::outcome::Settled;
 
 /// Patterns that each match a class.
@@ -19,64 +19,42 @@ const DEMANDED: &str = "W,I,Point";
 /// A class that is not accepted.
 const UNMET: &str = "Log";
 
-/// Makes a call twice over the same things lent. Answers whether it is one of this file.
-pub fn call<W: Write>(page: &mut Page<'_, W>, name: &str, program: &Program) -> io::Result<bool> {
+/// Makes a call twice over the same things lent.
+pub fn call<W: Write>(page: &mut Page<'_, W>, name: &str, program: &Program) {
     match name {
         "options::parse" => {
-            parse_list(page)?;
-            parse_list(page)?;
+            parse_list(page);
+            parse_list(page);
         }
-        "force" => {
-            let forcing = patterns_of(page.alloc, FORCED)?;
-            force_list(page, program, &forcing)?;
-            force_list(page, program, &forcing)?;
-        }
-        "demand" => {
-            let demanding = patterns_of(page.alloc, DEMANDED)?;
-            demand_list(page, program, &demanding)?;
-            demand_list(page, program, &demanding)?;
-        }
+        "force" => force_twice(page, program),
+        "demand" => demand_twice(page, program),
         "check" => match settled_of(page.alloc, program) {
-            Ok(settled) => check_unmet(page, program, &settled)?,
-            Err(error) => return Err(error),
+            Ok(settled) => check_twice(page, program, &settled),
+            Err(_) => page.give_up(),
         },
-        _ => return Ok(false),
-    }
-    Ok(true)
-}
-
-/// The patterns of a list.
-fn patterns_of(alloc: Global, list: &str) -> io::Result<Patterns> {
-    match parse(alloc, list) {
-        Ok(patterns) => Ok(patterns),
-        Err(_) => Err(wrong_data()),
+        _ => page.give_up(),
     }
 }
 
-/// What is demanded, and is not met.
-fn demanded(alloc: Global, program: &Program) -> io::Result<Demand> {
-    let patterns = patterns_of(alloc, UNMET)?;
-    match demand(alloc, program, &patterns, &Forced::none(alloc)) {
-        Ok(demand) => Ok(demand),
-        Err(_) => Err(wrong_data()),
-    }
-}
-
-fn parse_list<W: Write>(page: &mut Page<'_, W>) -> io::Result<()> {
-    page.ask("options::parse")?;
+fn parse_list<W: Write>(page: &mut Page<'_, W>) {
+    page.ask("options::parse");
     match parse(page.alloc, FORCED) {
         Ok(_) => page.value(0),
         Err(fault) => page.line(&fault),
     }
 }
 
+fn force_twice<W: Write>(page: &mut Page<'_, W>, program: &Program) {
+    let Ok(patterns) = parse(page.alloc, FORCED) else {
+        return page.give_up();
+    };
+    force_list(page, program, &patterns);
+    force_list(page, program, &patterns);
+}
+
 /// Tells how many classes are forced.
-fn force_list<W: Write>(
-    page: &mut Page<'_, W>,
-    program: &Program,
-    patterns: &Patterns,
-) -> io::Result<()> {
-    page.ask("force")?;
+fn force_list<W: Write>(page: &mut Page<'_, W>, program: &Program, patterns: &Patterns) {
+    page.ask("force");
     match force(page.alloc, program, patterns) {
         Ok(forced) => {
             let mut count = 0usize;
@@ -91,14 +69,18 @@ fn force_list<W: Write>(
     }
 }
 
+fn demand_twice<W: Write>(page: &mut Page<'_, W>, program: &Program) {
+    let Ok(patterns) = parse(page.alloc, DEMANDED) else {
+        return page.give_up();
+    };
+    demand_list(page, program, &patterns);
+    demand_list(page, program, &patterns);
+}
+
 /// Tells how many classes are demanded.
-fn demand_list<W: Write>(
-    page: &mut Page<'_, W>,
-    program: &Program,
-    patterns: &Patterns,
-) -> io::Result<()> {
+fn demand_list<W: Write>(page: &mut Page<'_, W>, program: &Program, patterns: &Patterns) {
     let forced = Forced::none(page.alloc);
-    page.ask("demand")?;
+    page.ask("demand");
     match demand(page.alloc, program, patterns, &forced) {
         Ok(demand) => {
             let mut count = 0usize;
@@ -113,16 +95,22 @@ fn demand_list<W: Write>(
     }
 }
 
-fn check_unmet<W: Write>(
-    page: &mut Page<'_, W>,
-    program: &Program,
-    settled: &Settled,
-) -> io::Result<()>
+fn check_twice<W: Write>(page: &mut Page<'_, W>, program: &Program, settled: &Settled)
     requires { length settled.now.verdicts ≡ length program.now.classes }
 {
-    let unmet = demanded(page.alloc, program)?;
-    check_demand(page, program, settled, &unmet)?;
-    check_demand(page, program, settled, &unmet)
+    let Ok(unmet) = demanded(page.alloc, program) else {
+        return page.give_up();
+    };
+    check_demand(page, program, settled, &unmet);
+    check_demand(page, program, settled, &unmet);
+}
+
+/// What is demanded, and is not met.
+fn demanded(alloc: Global, program: &Program) -> Result<Demand, OptionFault> {
+    match parse(alloc, UNMET) {
+        Ok(patterns) => demand(alloc, program, &patterns, &Forced::none(alloc)),
+        Err(fault) => Err(fault),
+    }
 }
 
 /// The class that is demanded is not accepted, and its name takes memory.
@@ -131,10 +119,10 @@ fn check_demand<W: Write>(
     program: &Program,
     settled: &Settled,
     demand: &Demand,
-) -> io::Result<()>
+)
     requires { length settled.now.verdicts ≡ length program.now.classes }
 {
-    page.ask("check")?;
+    page.ask("check");
     match check(page.alloc, program, settled, demand) {
         Ok(()) => page.value(0),
         Err(fault) => page.line(&fault),

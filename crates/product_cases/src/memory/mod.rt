@@ -25,8 +25,8 @@ use std::sync::Wait;
 use std::thread::Threads;
 use std::{fs, rt};
 
-/// Makes a call: the word has its group, which is the file that it stands in, and its name. Answers whether there is
-/// such a call.
+/// Makes a call: the word has its group, which is the file that it stands in, and its name. Answers whether all went
+/// well.
 pub fn call<R, W>(rt: &R, out: &mut W, word: &str) -> io::Result<bool>
 where
     R: rt::Files + AllocGlobal + Threads + Wait + Sync,
@@ -34,9 +34,12 @@ where
 {
     let text = fs::read_to_string(rt, "memory/classes.txt")?;
     let images = fs::read_to_string(rt, "memory/images.txt")?;
-    let files = files_of(rt.alloc(), &text)?;
     let mut page = Page::new(rt.alloc(), out);
-    of_files(rt, &mut page, word, &files, &images)
+    match files_of(rt.alloc(), &text) {
+        Some(files) => of_files(rt, &mut page, word, &files, &images),
+        None => page.give_up(),
+    }
+    Ok(page.is_well())
 }
 
 /// Makes a call on files, or on the program that they make.
@@ -46,15 +49,15 @@ fn of_files<R: Threads + Wait + Sync, W: Write>(
     word: &str,
     files: &[Vec<u8>],
     images: &str,
-) -> io::Result<bool> {
+) {
     match word.split_once(' ') {
         Some(("files", name)) => files::call(page, name, files),
         Some(("images", name)) => images::call(rt, page, name, files, images),
         Some((group, name)) => match linked(page.alloc, files) {
-            Ok(program) => of_program(rt, page, group, name, &program, files, images),
-            Err(error) => Err(error),
+            Some(program) => of_program(rt, page, group, name, &program, files, images),
+            None => page.give_up(),
         },
-        None => Ok(false),
+        None => page.give_up(),
     }
 }
 
@@ -66,7 +69,7 @@ fn of_program<R: Threads + Wait + Sync, W: Write>(
     program: &Program,
     files: &[Vec<u8>],
     images: &str,
-) -> io::Result<bool> {
+) {
     match group {
         "verdicts" => verdicts::call(rt, page, name, program),
         "lists" => lists::call(page, name, program),
@@ -74,6 +77,6 @@ fn of_program<R: Threads + Wait + Sync, W: Write>(
         "books" => books::call(page, name, program),
         "threads" => threads::call(rt, page, name, program),
         "feed" => feed(page, name, program, files, images),
-        _ => Ok(false),
+        _ => page.give_up(),
     }
 }

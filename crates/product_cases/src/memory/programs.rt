@@ -1,68 +1,63 @@
-//! Class files of their text form, and the programs and worlds that they make.
+//! Class files of their text form, and the programs and worlds that they make; none where the data are wrong.
 
-use super::page::wrong_data;
 use crate::programs::classes_of;
 use crate::shelf::Shelf;
 use cases::add_class_files;
-use classfile::ClassFile;
 use cli::entries_of;
 use init_engine::World;
 use program::{Program, link};
-use std::alloc::Global;
-use std::io;
+use std::alloc::{AllocError, Global};
 
 /// Class files of a text.
-pub fn files_of(alloc: Global, text: &str) -> io::Result<Vec<Vec<u8>>> {
+pub fn files_of(alloc: Global, text: &str) -> Option<Vec<Vec<u8>>> {
     let mut files = Vec::new(alloc);
-    let misspelled = add_class_files(alloc, &mut files, text)?;
-    if misspelled.is_empty() {
-        Ok(files)
-    } else {
-        Err(wrong_data())
-    }
-}
-
-/// The classes of files that are class files.
-pub fn classes_read(alloc: Global, files: &[Vec<u8>]) -> io::Result<Vec<ClassFile>> {
-    match classes_of(alloc, files) {
-        Ok(classes) => Ok(classes),
-        Err(_) => Err(wrong_data()),
+    match add_class_files(alloc, &mut files, text) {
+        Ok(misspelled) if misspelled.is_empty() => Some(files),
+        _ => None,
     }
 }
 
 /// The program of files that are class files.
-pub fn linked(alloc: Global, files: &[Vec<u8>]) -> io::Result<Program> {
-    match link(alloc, classes_read(alloc, files)?) {
-        Ok(program) => Ok(program),
-        Err(_) => Err(wrong_data()),
+pub fn linked(alloc: Global, files: &[Vec<u8>]) -> Option<Program> {
+    let Ok(classes) = classes_of(alloc, files) else {
+        return None;
+    };
+    match link(alloc, classes) {
+        Ok(program) => Some(program),
+        Err(_) => None,
     }
 }
 
 /// A shelf with class files, each named by its place, and the images of lines (`src/shelf.rt`).
-pub fn shelf_of(alloc: Global, files: &[Vec<u8>], lines: &str) -> io::Result<Shelf> {
+pub fn shelf_of(alloc: Global, files: &[Vec<u8>], lines: &str) -> Option<Shelf> {
     let mut shelf = Shelf::new(alloc);
-    add_all(alloc, &mut shelf, files, lines)?;
-    Ok(shelf)
+    match add_all(alloc, &mut shelf, files, lines) {
+        Ok(misspelled) if misspelled.is_empty() => Some(shelf),
+        _ => None,
+    }
 }
 
-fn add_all(alloc: Global, shelf: &mut Shelf, files: &[Vec<u8>], lines: &str) -> io::Result<()> {
+/// Answers what is misspelled.
+fn add_all(
+    alloc: Global,
+    shelf: &mut Shelf,
+    files: &[Vec<u8>],
+    lines: &str,
+) -> Result<String, AllocError> {
     let mut names = String::new(alloc);
     for file in files {
         shelf.add_file(&mut names, file)?;
     }
-    let misspelled = shelf.add_lines(lines)?;
-    if misspelled.is_empty() {
-        Ok(())
-    } else {
-        Err(wrong_data())
-    }
+    shelf.add_lines(lines)
 }
 
 /// The lazy start of these entries, apart by commas.
-pub fn start_of(alloc: Global, program: &Program, entries: &str) -> io::Result<World> {
-    let entries = entries_of(alloc, entries)?;
+pub fn start_of(alloc: Global, program: &Program, entries: &str) -> Option<World> {
+    let Ok(entries) = entries_of(alloc, entries) else {
+        return None;
+    };
     match World::lazy(alloc, program, &entries) {
-        Ok(world) => Ok(world),
-        Err(_) => Err(wrong_data()),
+        Ok(world) => Some(world),
+        Err(_) => None,
     }
 }

@@ -92,7 +92,7 @@ fn of_journal(alloc: Global, program: &Program, bytes: &[u8]) -> Result<String, 
 }
 
 fn of_replay(alloc: Global, program: &Program, journal: &Journal) -> Result<String, AllocError> {
-    let Ok(start) = start_of(alloc, program, "Work,Work") else {
+    let Some(start) = start_of(alloc, program, "Work,Work") else {
         return Err(AllocError);
     };
     match replay(alloc, program, start, journal) {

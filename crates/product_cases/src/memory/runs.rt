@@ -1,6 +1,6 @@
 //! Calls that run a thread.
 
-use super::page::{Page, wrong_data};
+use super::page::Page;
 use super::programs::start_of;
 use classfile::ClassName;
 use cli::entries_of;
@@ -9,42 +9,34 @@ use init_engine::{Output, Turn, World, turns};
 use machine::{Effect, Frames, Shared, effect};
 use program::Program;
 use std::alloc::{AllocError, Global};
-use std::io::{self, Write};
+use std::io::Write;
 use vm_state::classes::Fields;
 use vm_state::heap::Pool;
 
 /// No run here takes as many steps.
 const MANY: u64 = 10_000;
 
-/// Makes a call twice over the same things lent. Answers whether it is one of this file.
-pub fn call<W: Write>(page: &mut Page<'_, W>, name: &str, program: &Program) -> io::Result<bool> {
-    let entries = entries_of(page.alloc, "Main,Work,Main")?;
-    make(page, name, program, &entries)?;
-    make(page, name, program, &entries)
+/// Makes a call twice over the same things lent.
+pub fn call<W: Write>(page: &mut Page<'_, W>, name: &str, program: &Program) {
+    let Ok(entries) = entries_of(page.alloc, "Main,Work,Main") else {
+        return page.give_up();
+    };
+    make(page, name, program, &entries);
+    make(page, name, program, &entries);
 }
 
-fn make<W: Write>(
-    page: &mut Page<'_, W>,
-    name: &str,
-    program: &Program,
-    entries: &[ClassName],
-) -> io::Result<bool> {
+fn make<W: Write>(page: &mut Page<'_, W>, name: &str, program: &Program, entries: &[ClassName]) {
     match name {
-        "World::lazy" => start_at(page, program, entries)?,
-        "step" => step_main(page, program)?,
-        "effect" => effect_plain(page, program)?,
-        "turns" | "seen" => turn_main(page, name, program)?,
-        _ => return Ok(false),
+        "World::lazy" => start_at(page, program, entries),
+        "step" => step_main(page, program),
+        "effect" => effect_plain(page, program),
+        "turns" | "seen" => turn_main(page, name, program),
+        _ => page.give_up(),
     }
-    Ok(true)
 }
 
-fn start_at<W: Write>(
-    page: &mut Page<'_, W>,
-    program: &Program,
-    entries: &[ClassName],
-) -> io::Result<()> {
-    page.ask("World::lazy")?;
+fn start_at<W: Write>(page: &mut Page<'_, W>, program: &Program, entries: &[ClassName]) {
+    page.ask("World::lazy");
     match World::lazy(page.alloc, program, entries) {
         Ok(world) => page.value(world.thread_count() as usize),
         Err(fault) => page.line(&fault),
@@ -53,27 +45,25 @@ fn start_at<W: Write>(
 
 /// Steps of a thread. Where memory is refused, the world and how many steps it has taken are as before that one: those
 /// that are left lead to the same.
-fn step_main<W: Write>(page: &mut Page<'_, W>, program: &Program) -> io::Result<()> {
+fn step_main<W: Write>(page: &mut Page<'_, W>, program: &Program) {
     match start_of(page.alloc, program, "Main") {
-        Ok(mut world) => step_from(page, program, &mut world),
-        Err(error) => Err(error),
+        Some(mut world) => step_from(page, program, &mut world),
+        None => page.give_up(),
     }
 }
 
-fn step_from<W: Write>(
-    page: &mut Page<'_, W>,
-    program: &Program,
-    world: &mut World,
-) -> io::Result<()> {
+fn step_from<W: Write>(page: &mut Page<'_, W>, program: &Program, world: &mut World) {
     let mut count = 0u64;
-    page.ask("step")?;
+    page.ask("step");
     match step_on(page.alloc, program, world, &mut count) {
-        Ok(()) => page.value(0)?,
-        Err(_) => page.memory()?,
+        Ok(()) => page.value(0),
+        Err(_) => page.memory(),
     }
-    step_on(page.alloc, program, world, &mut count)?;
-    page.line(&count)?;
-    page.seen(&world.endings(page.alloc)?, world.printed())
+    if step_on(page.alloc, program, world, &mut count).is_err() {
+        page.give_up();
+    }
+    page.line(&count);
+    page.world(world);
 }
 
 /// Steps of the first thread up to the turn in which it has none. They are counted.
@@ -96,10 +86,12 @@ fn step_on(
 }
 
 /// The turns of two threads, or what is seen after them.
-fn turn_main<W: Write>(page: &mut Page<'_, W>, name: &str, program: &Program) -> io::Result<()> {
-    let world = start_of(page.alloc, program, "Main,Work")?;
+fn turn_main<W: Write>(page: &mut Page<'_, W>, name: &str, program: &Program) {
+    let Some(world) = start_of(page.alloc, program, "Main,Work") else {
+        return page.give_up();
+    };
     if name == "turns" {
-        page.ask("turns")?;
+        page.ask("turns");
     }
     match turns(page.alloc, program, world, MANY) {
         Ok((_, schedule)) if name == "turns" => page.value(schedule.len()),
@@ -108,8 +100,8 @@ fn turn_main<W: Write>(page: &mut Page<'_, W>, name: &str, program: &Program) ->
     }
 }
 
-fn see_world<W: Write>(page: &mut Page<'_, W>, world: World) -> io::Result<()> {
-    page.ask("seen")?;
+fn see_world<W: Write>(page: &mut Page<'_, W>, world: World) {
+    page.ask("seen");
     match world.into_seen(page.alloc) {
         Ok(seen) => page.value(seen.printed.count()),
         Err(_) => page.memory(),
@@ -126,38 +118,46 @@ fn initialized(alloc: Global, program: &Program) -> Result<Shared, AllocError> {
 }
 
 /// The frames of a thread of `Plain` at its `main`.
-fn frames_at_main(alloc: Global, program: &Program) -> io::Result<Frames> {
-    let mut world = start_of(alloc, program, "Plain")?;
+fn frames_at_main(alloc: Global, program: &Program) -> Option<Frames> {
+    match start_of(alloc, program, "Plain") {
+        Some(mut world) => frames_from(alloc, program, &mut world),
+        None => None,
+    }
+}
+
+fn frames_from(alloc: Global, program: &Program, world: &mut World) -> Option<Frames> {
     for _ in 0..MANY {
         if world.thread_count() == 0 {
-            return Err(wrong_data());
+            return None;
         }
-        let frames = world.frames(alloc, 0)?;
+        let Ok(frames) = world.frames(alloc, 0) else {
+            return None;
+        };
         if frames.segment.is_some() && frames.levels.is_none() {
-            return Ok(frames);
+            return Some(frames);
         }
-        let _turn = world.step(alloc, program, 0)?;
+        if world.step(alloc, program, 0).is_err() {
+            return None;
+        }
     }
-    Err(wrong_data())
+    None
 }
 
 /// Instructions of a thread. Where memory is refused, all is as before that one: those that are left print the same.
-fn effect_plain<W: Write>(page: &mut Page<'_, W>, program: &Program) -> io::Result<()> {
+fn effect_plain<W: Write>(page: &mut Page<'_, W>, program: &Program) {
     match frames_at_main(page.alloc, program) {
-        Ok(mut frames) => effect_from(page, program, &mut frames),
-        Err(error) => Err(error),
+        Some(mut frames) => effect_from(page, program, &mut frames),
+        None => page.give_up(),
     }
 }
 
-fn effect_from<W: Write>(
-    page: &mut Page<'_, W>,
-    program: &Program,
-    frames: &mut Frames,
-) -> io::Result<()> {
-    let mut shared = initialized(page.alloc, program)?;
+fn effect_from<W: Write>(page: &mut Page<'_, W>, program: &Program, frames: &mut Frames) {
+    let Ok(mut shared) = initialized(page.alloc, program) else {
+        return page.give_up();
+    };
     let mut printed = Output::new(page.alloc);
-    effect_on(page, program, frames, &mut shared, &mut printed)?;
-    page.seen(&[], &printed)
+    effect_on(page, program, frames, &mut shared, &mut printed);
+    page.seen(&[], &printed);
 }
 
 fn effect_on<W: Write>(
@@ -166,14 +166,15 @@ fn effect_on<W: Write>(
     frames: &mut Frames,
     shared: &mut Shared,
     printed: &mut Output,
-) -> io::Result<()> {
-    page.ask("effect")?;
+) {
+    page.ask("effect");
     match effects(page.alloc, program, frames, shared, printed) {
-        Ok(()) => page.value(0)?,
-        Err(_) => page.memory()?,
+        Ok(()) => page.value(0),
+        Err(_) => page.memory(),
     }
-    effects(page.alloc, program, frames, shared, printed)?;
-    Ok(())
+    if effects(page.alloc, program, frames, shared, printed).is_err() {
+        page.give_up();
+    }
 }
 
 /// Instructions of a thread, up to one that ends it or that it can't do.

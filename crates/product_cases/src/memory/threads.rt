@@ -1,13 +1,12 @@
 //! Calls that run threads of the system, and calls on journals.
 
-use super::page::{Page, wrong_data};
+use super::page::Page;
 use super::programs::start_of;
 use crate::streams::OneByOne;
 use journal::{Journal, JournalFault};
 use program::Program;
 use sinks::Out;
-use std::alloc::Global;
-use std::io::{self, Write};
+use std::io::Write;
 use std::sync::Wait;
 use std::thread::Threads;
 use thread_runner::replay::{ReplayFault, replay};
@@ -34,20 +33,18 @@ impl Gate for Asked {
     fn done(&self, _who: u32, _job: u64) {}
 }
 
-/// Makes a call twice over the same things lent. Answers whether it is one of this file.
+/// Makes a call twice over the same things lent.
 pub fn call<R: Threads + Wait + Sync, W: Write>(
     rt: &R,
     page: &mut Page<'_, W>,
     name: &str,
     program: &Program,
-) -> io::Result<bool> {
-    match journal_of(page.alloc) {
-        Ok(journal) => {
-            make(rt, page, name, program, &journal)?;
-            make(rt, page, name, program, &journal)
-        }
-        Err(error) => Err(error),
-    }
+) {
+    let Ok(journal) = Journal::parse(page.alloc, JOURNAL) else {
+        return page.give_up();
+    };
+    make(rt, page, name, program, &journal);
+    make(rt, page, name, program, &journal);
 }
 
 fn make<R: Threads + Wait + Sync, W: Write>(
@@ -56,17 +53,16 @@ fn make<R: Threads + Wait + Sync, W: Write>(
     name: &str,
     program: &Program,
     journal: &Journal,
-) -> io::Result<bool> {
+) {
     match name {
-        "run_threads" => run_work(rt, page, program, &Open, PRINTED.len())?,
-        "run_threads_at_a_gate" => run_work(rt, page, program, &Asked, PRINTED.len())?,
-        "run_threads_into_sinks_that_fail" => run_into_all(rt, page, program)?,
-        "replay" => replay_journal(page, program, journal)?,
-        "Journal::parse" => parse_text(page)?,
-        "Journal::text" => write_text(page, journal)?,
-        _ => return Ok(false),
+        "run_threads" => run_work(rt, page, program, &Open, PRINTED.len()),
+        "run_threads_at_a_gate" => run_work(rt, page, program, &Asked, PRINTED.len()),
+        "run_threads_into_sinks_that_fail" => run_into_all(rt, page, program),
+        "replay" => replay_journal(page, program, journal),
+        "Journal::parse" => parse_text(page),
+        "Journal::text" => write_text(page, journal),
+        _ => page.give_up(),
     }
-    Ok(true)
 }
 
 /// Runs three threads into a sink that takes so many bytes, and fails then.
@@ -76,10 +72,12 @@ fn run_work<R: Threads + Wait + Sync, G: Gate, W: Write>(
     program: &Program,
     gate: &G,
     room: usize,
-) -> io::Result<()> {
-    let world = start_of(page.alloc, program, "Work,Work,Work")?;
+) {
+    let Some(world) = start_of(page.alloc, program, "Work,Work,Work") else {
+        return page.give_up();
+    };
     let out = Out::new(OneByOne::failing(PRINTED, room));
-    page.ask("run_threads")?;
+    page.ask("run_threads");
     let (answer, out) = run_threads(rt, page.alloc, program, world, gate, out, MANY);
     tell_answer(page, &answer, &out.into_inner())
 }
@@ -89,11 +87,10 @@ fn run_into_all<R: Threads + Wait + Sync, W: Write>(
     rt: &R,
     page: &mut Page<'_, W>,
     program: &Program,
-) -> io::Result<()> {
+) {
     for room in 0..PRINTED.len() {
-        run_work(rt, page, program, &Open, room)?;
+        run_work(rt, page, program, &Open, room);
     }
-    Ok(())
 }
 
 /// Tells what a run answered; of one that was refused something, only where a beginning of its text went out.
@@ -101,7 +98,7 @@ fn tell_answer<W: Write>(
     page: &mut Page<'_, W>,
     answer: &Result<Ended, RunFault>,
     stream: &OneByOne<'_>,
-) -> io::Result<()> {
+) {
     match answer {
         Ok(ended) if stream.is_full() => page.line(&steps_in(ended.journal.runs())),
         Err(RunFault::Memory) if stream.is_same => page.memory(),
@@ -122,21 +119,11 @@ fn steps_in(runs: &[(u32, u64)]) -> u64 {
     sum
 }
 
-/// The journal of the text above.
-fn journal_of(alloc: Global) -> io::Result<Journal> {
-    match Journal::parse(alloc, JOURNAL) {
-        Ok(journal) => Ok(journal),
-        Err(_) => Err(wrong_data()),
-    }
-}
-
-fn replay_journal<W: Write>(
-    page: &mut Page<'_, W>,
-    program: &Program,
-    journal: &Journal,
-) -> io::Result<()> {
-    let start = start_of(page.alloc, program, "Work,Work")?;
-    page.ask("replay")?;
+fn replay_journal<W: Write>(page: &mut Page<'_, W>, program: &Program, journal: &Journal) {
+    let Some(start) = start_of(page.alloc, program, "Work,Work") else {
+        return page.give_up();
+    };
+    page.ask("replay");
     match replay(page.alloc, program, start, journal) {
         Ok(seen) => page.value(seen.printed.count()),
         Err(ReplayFault::Memory) => page.memory(),
@@ -144,8 +131,8 @@ fn replay_journal<W: Write>(
     }
 }
 
-fn parse_text<W: Write>(page: &mut Page<'_, W>) -> io::Result<()> {
-    page.ask("Journal::parse")?;
+fn parse_text<W: Write>(page: &mut Page<'_, W>) {
+    page.ask("Journal::parse");
     match Journal::parse(page.alloc, JOURNAL) {
         Ok(journal) => page.value(journal.runs().len()),
         Err(JournalFault::Memory) => page.memory(),
@@ -153,8 +140,8 @@ fn parse_text<W: Write>(page: &mut Page<'_, W>) -> io::Result<()> {
     }
 }
 
-fn write_text<W: Write>(page: &mut Page<'_, W>, journal: &Journal) -> io::Result<()> {
-    page.ask("Journal::text")?;
+fn write_text<W: Write>(page: &mut Page<'_, W>, journal: &Journal) {
+    page.ask("Journal::text");
     match journal.text(page.alloc) {
         Ok(text) if text.as_slice() == JOURNAL => page.value(text.len()),
         Ok(_) => page.line(&"another text"),

@@ -3,7 +3,7 @@
 ghost use Rattle.std.specs.Prelude.{◌≡◌, IfOk, length};
 ghost use Rattle.wave_scheduler.specs.Outcomes.{AreJudged};
 
-use super::page::{Page, wrong_data};
+use super::page::Page;
 use evaluator::outcome::Evaluation;
 use evaluator::settling::evaluate;
 use initializer_analysis::forced::Forced;
@@ -12,7 +12,7 @@ use initializer_analysis::verdict::Verdicts;
 use program::Program;
 use region_shape::regions::Regions;
 use std::alloc::{AllocError, Global};
-use std::io::{self, Write};
+use std::io::Write;
 use std::sync::Wait;
 use std::thread::Threads;
 use use_graph::uses;
@@ -25,20 +25,18 @@ const BUDGET: u64 = 1_000;
 /// How many workers settle.
 const WORKERS: u32 = 3;
 
-/// Makes a call twice over the same things lent. Answers whether it is one of this file.
+/// Makes a call twice over the same things lent.
 pub fn call<R: Threads + Wait + Sync, W: Write>(
     rt: &R,
     page: &mut Page<'_, W>,
     name: &str,
     program: &Program,
-) -> io::Result<bool> {
-    match settled_of(page.alloc, program) {
-        Ok(settled) => {
-            make(rt, page, name, program, &settled.regions)?;
-            make(rt, page, name, program, &settled.regions)
-        }
-        Err(error) => Err(error),
-    }
+) {
+    let Ok(settled) = settled_of(page.alloc, program) else {
+        return page.give_up();
+    };
+    make(rt, page, name, program, &settled.regions);
+    make(rt, page, name, program, &settled.regions);
 }
 
 fn make<R: Threads + Wait + Sync, W: Write>(
@@ -47,25 +45,24 @@ fn make<R: Threads + Wait + Sync, W: Write>(
     name: &str,
     program: &Program,
     regions: &Regions,
-) -> io::Result<bool> {
+) {
     match name {
         "uses" => {
-            page.ask(name)?;
-            page.number(uses_in(page.alloc, program))?;
+            page.ask(name);
+            page.number(uses_in(page.alloc, program));
         }
         "judge" => {
-            page.ask(name)?;
-            page.number(judged_in(page.alloc, program))?;
+            page.ask(name);
+            page.number(judged_in(page.alloc, program));
         }
         "settle" => {
-            page.ask(name)?;
-            page.number(settled_over(page.alloc, program, regions))?;
+            page.ask(name);
+            page.number(settled_over(page.alloc, program, regions));
         }
-        "settle_all_here" | "settle_all" => settle(rt, page, name, program)?,
-        "Regions::put" => put_last(page, program)?,
-        _ => return Ok(false),
+        "settle_all_here" | "settle_all" => settle(rt, page, name, program),
+        "Regions::put" => put_last(page, program),
+        _ => page.give_up(),
     }
-    Ok(true)
 }
 
 /// How many methods may run for the classes of a program, and classes that they may use.
@@ -109,9 +106,11 @@ fn settle<R: Threads + Wait + Sync, W: Write>(
     page: &mut Page<'_, W>,
     name: &str,
     program: &Program,
-) -> io::Result<()> {
-    let verdicts = judged(page.alloc, program)?;
-    page.ask(name)?;
+) {
+    let Ok(verdicts) = judged(page.alloc, program) else {
+        return page.give_up();
+    };
+    page.ask(name);
     let answer = if name == "settle_all" {
         settle_all(rt, page.alloc, program, verdicts, BUDGET, WORKERS, &Open)
     } else {
@@ -125,7 +124,7 @@ fn tell_settled<W: Write>(
     page: &mut Page<'_, W>,
     program: &Program,
     answer: &Result<Settled, WaveFault>,
-) -> io::Result<()> {
+) {
     let mut count = 0usize;
     match answer {
         Ok(settled) => {
@@ -141,25 +140,27 @@ fn tell_settled<W: Write>(
 }
 
 /// What becomes of all classes of a program.
-pub fn settled_of(alloc: Global, program: &Program) -> io::Result<Settled>
+pub fn settled_of(alloc: Global, program: &Program) -> Result<Settled, AllocError>
     ensures { IfOk result (λ settled. length settled.verdicts ≡ length program.now.classes) }
 {
     let verdicts = judged(alloc, program)?;
     match settle_all_here(alloc, program, verdicts, BUDGET) {
         Ok(settled) => Ok(settled),
-        Err(_) => Err(wrong_data()),
+        Err(_) => Err(AllocError),
     }
 }
 
 /// Puts the region of the last class where there is none.
-fn put_last<W: Write>(page: &mut Page<'_, W>, program: &Program) -> io::Result<()> {
-    let mut settled = settled_of(page.alloc, program)?;
+fn put_last<W: Write>(page: &mut Page<'_, W>, program: &Program) {
+    let Ok(mut settled) = settled_of(page.alloc, program) else {
+        return page.give_up();
+    };
     let last = program.given_count().saturating_sub(1);
     let Some(region) = settled.regions.take(last) else {
-        return Err(wrong_data());
+        return page.give_up();
     };
     let mut regions = Regions::none(page.alloc);
-    page.ask("Regions::put")?;
+    page.ask("Regions::put");
     let answer = regions.put(last, region);
     match (answer, regions.get(last).is_some()) {
         (Ok(()), true) => page.value(1),
