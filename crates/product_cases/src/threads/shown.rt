@@ -1,0 +1,138 @@
+//! What runs of threads show.
+
+use init_engine::Ending;
+use std::alloc::{AllocError, Global};
+use std::str::from_utf8;
+use thread_runner::{Ended, RunFault};
+
+/// What a run of threads shows.
+#[derive(Drop)]
+pub struct RunShown {
+    /// `ended`, `limit` or `stuck`; `device` where its sink failed; `memory` or `spawn`.
+    end: &'static str,
+    /// How many bytes went out before the sink failed.
+    sent: u128,
+    /// The text of its journal.
+    pub journal: Vec<u8>,
+    /// How many steps that has.
+    steps: u64,
+    threads: usize,
+    /// How many of them have not ended.
+    going: usize,
+    /// What its sink got.
+    pub got: Vec<u8>,
+    /// Whether that is all that was printed.
+    is_whole: bool,
+}
+
+impl RunShown {
+    /// What an answer shows, and what the sink got.
+    pub fn of(
+        alloc: Global,
+        answer: Result<Ended, RunFault>,
+        got: Vec<u8>,
+    ) -> Result<RunShown, AllocError> {
+        match answer {
+            Ok(ended) => of_ended(alloc, "ended", &ended, got),
+            Err(RunFault::Limit(ended)) => of_ended(alloc, "limit", &ended, got),
+            Err(RunFault::Stuck(ended)) => of_ended(alloc, "stuck", &ended, got),
+            Err(RunFault::Device(sent)) => Ok(without_journal(alloc, "device", sent, got)),
+            Err(RunFault::Memory) => Ok(without_journal(alloc, "memory", 0, got)),
+            Err(RunFault::Spawn) => Ok(without_journal(alloc, "spawn", 0, got)),
+        }
+    }
+
+    /// Adds what a word asks for, after a space where it is not the first.
+    pub fn add_word(&self, text: &mut String, word: &str) -> Result<(), AllocError> {
+        if !text.is_empty() {
+            text.push(' ')?;
+        }
+        match self.text(word) {
+            Some(found) => text.push_str(found),
+            None => {
+                let number = self.number(word);
+                write!(text, "{number}")
+            }
+        }
+    }
+
+    fn text(&self, word: &str) -> Option<&str> {
+        match word {
+            "end" => Some(self.end),
+            // Where it depends on the schedule which.
+            "over" if matches!(self.end, "ended" | "stuck") => Some("over"),
+            "over" => Some(self.end),
+            "got" if self.got.is_empty() => Some("nothing"),
+            "got" => Some(from_utf8(&self.got).unwrap_or("no text")),
+            "journal" => Some(from_utf8(&self.journal).unwrap_or("no text")),
+            "whole" if self.is_whole => Some("whole"),
+            "whole" => Some("cut"),
+            _ => None,
+        }
+    }
+
+    fn number(&self, word: &str) -> u128 {
+        match word {
+            "sent" => self.sent,
+            "steps" => u128::from(self.steps),
+            // How many times 1,024 steps.
+            "rounds" => u128::from(self.steps / 1_024),
+            "threads" => self.threads as u128,
+            "going" => self.going as u128,
+            "length" => self.got.len() as u128,
+            _ => 0,
+        }
+    }
+}
+
+fn without_journal(alloc: Global, end: &'static str, sent: u128, got: Vec<u8>) -> RunShown {
+    RunShown {
+        end,
+        sent,
+        journal: Vec::new(alloc),
+        steps: 0,
+        threads: 0,
+        going: 0,
+        got,
+        is_whole: false,
+    }
+}
+
+fn of_ended(
+    alloc: Global,
+    end: &'static str,
+    ended: &Ended,
+    got: Vec<u8>,
+) -> Result<RunShown, AllocError> {
+    let journal = ended.journal.text(alloc)?;
+    let is_whole = ended.seen.printed.text_from(0) == got.as_slice();
+    Ok(RunShown {
+        end,
+        sent: 0,
+        journal,
+        steps: steps_in(ended.journal.runs()),
+        threads: ended.seen.threads.len(),
+        going: going_in(&ended.seen.threads),
+        got,
+        is_whole,
+    })
+}
+
+/// How many steps a journal has.
+fn steps_in(runs: &[(u32, u64)]) -> u64 {
+    let mut sum = 0u64;
+    for run in runs {
+        sum = sum.wrapping_add(run.1);
+    }
+    sum
+}
+
+fn going_in(endings: &[Ending]) -> usize {
+    let mut count = 0usize;
+    for ending in endings {
+        if matches!(ending, Ending::Going) {
+            count = count.wrapping_add(1);
+        }
+    }
+    count
+}

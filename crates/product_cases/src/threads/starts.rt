@@ -1,0 +1,62 @@
+//! Starts of threads where some classes are initialized, whose static fields no initializer sets.
+
+ghost use Rattle.std.specs.Prelude.{◌≤◌, length};
+
+use crate::runs::entries_of;
+use init_engine::World;
+use init_engine::starting::{entry_classes, lazy_shared};
+use program::Program;
+use std::alloc::{AllocError, Global};
+use vm_state::classes::Fields;
+use vm_state::heap::Pool;
+use vm_state::shared::Shared;
+
+/// The start of these entries, where they and the classes that are initialized are there.
+pub fn start(
+    alloc: Global,
+    program: &Program,
+    entries: &str,
+    initialized: &str,
+) -> Result<Option<World>, AllocError> {
+    let names = entries_of(alloc, entries)?;
+    match entry_classes(alloc, program, &names) {
+        Ok(classes) => start_over(alloc, program, &classes, initialized),
+        Err(_) => Ok(None),
+    }
+}
+
+fn start_over(
+    alloc: Global,
+    program: &Program,
+    classes: &[u32],
+    initialized: &str,
+) -> Result<Option<World>, AllocError>
+    requires { length classes.now ≤ 64 }
+{
+    let mut shared = lazy_shared(alloc, program, classes.len())?;
+    if !initialize_all(alloc, program, &mut shared, initialized)? {
+        return Ok(None);
+    }
+    Ok(Some(World::start(alloc, shared, classes)?))
+}
+
+/// Initializes classes. Answers whether they are there.
+fn initialize_all(
+    alloc: Global,
+    program: &Program,
+    shared: &mut Shared,
+    list: &str,
+) -> Result<bool, AllocError> {
+    let names = entries_of(alloc, list)?;
+    for name in &names {
+        match program.number_of(alloc, name)? {
+            Some(class) => initialize(alloc, shared, class)?,
+            None => return Ok(false),
+        }
+    }
+    Ok(true)
+}
+
+fn initialize(alloc: Global, shared: &mut Shared, class: u32) -> Result<(), AllocError> {
+    shared.initialize(alloc, class, Fields::new(alloc), Pool::new(alloc))
+}
