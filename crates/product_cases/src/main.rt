@@ -37,6 +37,7 @@ mod schedules;
 mod shelf;
 mod streams;
 mod tables;
+mod threads;
 mod uses;
 mod verdicts;
 
@@ -70,6 +71,8 @@ enum About {
     Options,
     /// Classes, what linking them answers, and what is seen of their runs.
     Programs,
+    /// Classes, runs of them by several threads of the system, and what workers make of them at build time.
+    Threads,
 }
 
 impl Subject for About {
@@ -89,6 +92,7 @@ impl Subject for About {
             About::Images => images::answer(rt, alloc, given, asked),
             About::Options => patterns::answer(alloc, given, asked),
             About::Programs => programs::answer(alloc, given, asked),
+            About::Threads => threads::answer(rt, alloc, given, asked),
         }
     }
 }
@@ -103,6 +107,7 @@ fn subject_of(name: &str) -> About {
         Some(("graphs", _)) => About::Graphs,
         Some(("images", _)) => About::Images,
         Some(("options" | "verdicts", _)) => About::Options,
+        Some(("threads", _)) => About::Threads,
         _ => About::Programs,
     }
 }

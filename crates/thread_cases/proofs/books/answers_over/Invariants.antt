@@ -1,5 +1,0 @@
-use Rattle.init_engine.specs.Turns.{world_of}
-use Rattle.thread_cases.proofs.books.answers_over.Given as goal
-
-abbrev pub ghosts-answers_in : goal.ghosts-answers_in
-ghosts-answers_in a = record { program = a.program.now; start = world_of a.world }

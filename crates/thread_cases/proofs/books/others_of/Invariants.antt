@@ -1,5 +1,0 @@
-use Rattle.init_engine.specs.Turns.{world_of}
-use Rattle.thread_cases.proofs.books.others_of.Given as goal
-
-abbrev pub ghosts-done_in : goal.ghosts-done_in
-ghosts-done_in a = record { program = a.program.now; start = world_of a.world }
