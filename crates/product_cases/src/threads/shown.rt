@@ -33,9 +33,9 @@ impl RunShown {
         got: Vec<u8>,
     ) -> Result<RunShown, AllocError> {
         match answer {
-            Ok(ended) => of_ended(alloc, "ended", &ended, got),
-            Err(RunFault::Limit(ended)) => of_ended(alloc, "limit", &ended, got),
-            Err(RunFault::Stuck(ended)) => of_ended(alloc, "stuck", &ended, got),
+            Ok(ended) => of_ended(alloc, "ended", ended, got),
+            Err(RunFault::Limit(ended)) => of_ended(alloc, "limit", ended, got),
+            Err(RunFault::Stuck(ended)) => of_ended(alloc, "stuck", ended, got),
             Err(RunFault::Device(sent)) => Ok(without_journal(alloc, "device", sent, got)),
             Err(RunFault::Memory) => Ok(without_journal(alloc, "memory", 0, got)),
             Err(RunFault::Spawn) => Ok(without_journal(alloc, "spawn", 0, got)),
@@ -106,10 +106,12 @@ fn without_journal(alloc: Global, end: &'static str, sent: u128, got: Vec<u8>) -
 fn of_ended(
     alloc: Global,
     end: &'static str,
-    ended: &Ended,
+    ended: Ended,
     got: Vec<u8>,
 ) -> Result<RunShown, AllocError> {
-    let journal = ended.journal.text(alloc)?;
+    let Ok(journal) = ended.journal.text(alloc) else {
+        return Err(AllocError);
+    };
     let is_whole = ended.seen.printed.text_from(0) == got.as_slice();
     Ok(RunShown {
         end,
