@@ -13,6 +13,7 @@ mod shown;
 mod starts;
 mod worker_gates;
 
+use crate::threads::plan::halves;
 use cases::read_class_files;
 use classfile::{ClassFile, read};
 use program::{Program, link};
@@ -28,9 +29,10 @@ pub fn answer<R: Threads + Wait + Sync>(
     given: &str,
     asked: &str,
 ) -> Result<String, AllocError> {
-    match read_class_files(alloc, given, |bytes| read(alloc, bytes).ok())? {
-        Some(classes) => of_classes(rt, alloc, classes, asked),
-        None => String::from_str(alloc, "no classes"),
+    match read_class_files(alloc, given, |bytes| read(alloc, bytes).ok()) {
+        Ok(Some(classes)) => of_classes(rt, alloc, classes, asked),
+        Ok(None) => String::from_str(alloc, "no classes"),
+        Err(error) => Err(error),
     }
 }
 
@@ -52,7 +54,7 @@ fn of_program<R: Threads + Wait + Sync>(
     program: &Program,
     asked: &str,
 ) -> Result<String, AllocError> {
-    let (verb, about) = asked.split_once(' ').unwrap_or((asked, ""));
+    let (verb, about) = halves(asked, " ");
     match verb {
         "run" => runs::answer(rt, alloc, program, about),
         "commits" => commits::answer(alloc, program, about),

@@ -3,72 +3,51 @@
 ghost use Rattle.std.specs.Prelude.{◌≡◌, ◌<◌, length};
 ghost use Rattle.init_engine.specs.Turns.{world_of};
 
+use crate::threads::plan::{ThreadPlan, halves};
 use crate::threads::starts::start;
 use init_engine::World;
-use journal::Journal;
 use program::Program;
 use std::alloc::{AllocError, Global};
 use std::marker::Brand;
-use std::str::from_utf8;
 use thread_runner::done_set::DoneSet;
 use thread_runner::origin::Origin;
 use thread_runner::running::{front_stretch, stretch};
+use thread_runner::stretch::Stretch;
 use thread_runner::{Book, Commit, FrontStretch};
 
-/// Commits of a thread: `KIND 'ENTRY' over 'CLASS' .. beside 'CLASS' .. | WORD ..`.
-#[derive(Clone, Copy)]
-struct CommitPlan<'a> {
-    /// `frames`: each stretch is on all frames of the thread; `front`: on its innermost one alone, as in a run.
-    kind: &'a str,
-    entry: &'a str,
-    /// The classes that are initialized.
-    initialized: &'a str,
-    /// Those that are initialized in another start.
-    others: &'a str,
-    /// A stretch each: `known`, over the classes that are initialized; `others`, over those of the other start; `none`,
-    /// over none; `twice`, over none, and after it another that was made at the same place.
-    words: &'a str,
-}
-
-impl<'a> CommitPlan<'a> {
-    fn of(about: &'a str) -> CommitPlan<'a> {
-        let (start, words) = about.split_once(" | ").unwrap_or((about, ""));
-        let (kind, start) = start.split_once(' ').unwrap_or((start, ""));
-        let (entry, classes) = start.split_once(" over ").unwrap_or((start, ""));
-        let (initialized, others) = classes.split_once(" beside ").unwrap_or((classes, ""));
-        CommitPlan {
-            kind,
-            entry,
-            initialized,
-            others,
-            words,
-        }
-    }
-}
-
-/// What each commit answers, and the journal after it.
+/// Asked is a thread and its commits (`plan.rt`). The setting `frames` says that each stretch is on all frames of the
+/// thread, `front` that it is on its innermost one alone, as in a run. A word is a stretch: `known`, over the classes
+/// that are initialized; `others`, over those behind `beside`, initialized in another start; `none`, over none;
+/// `twice`, over none, and after it another that was made at the same place.
+///
+/// Answered is what each commit is, and the last run of the journal after it.
 pub fn answer(alloc: Global, program: &Program, about: &str) -> Result<String, AllocError> {
-    let plan = CommitPlan::of(about);
-    let others = others_of(alloc, program, &plan)?;
-    match start(alloc, program, plan.entry, plan.initialized)? {
-        Some(world) => answers_in::<Brand>(alloc, program, world, &plan, &others),
-        None => String::from_str(alloc, "no start"),
-    }
-}
-
-/// The classes that are initialized in the other start.
-fn others_of(
-    alloc: Global,
-    program: &Program,
-    plan: &CommitPlan<'_>,
-) -> Result<DoneSet, AllocError> {
-    match start(alloc, program, plan.entry, plan.others)? {
-        Some(world) => done_in::<Brand>(alloc, program, world),
-        None => Ok(DoneSet::none()),
+    let plan = ThreadPlan::of(about);
+    let (initialized, others) = halves(plan.initialized, " beside ");
+    let Ok(others) = done_over(alloc, program, plan.entries, others) else {
+        return Err(AllocError);
+    };
+    match start(alloc, program, plan.entries, initialized) {
+        Ok(Some(world)) => answers_in::<Brand>(alloc, program, world, &plan, &others),
+        Ok(None) => String::from_str(alloc, "no start"),
+        Err(error) => Err(error),
     }
 }
 
 /// The classes that are initialized in a start.
+fn done_over(
+    alloc: Global,
+    program: &Program,
+    entry: &str,
+    initialized: &str,
+) -> Result<DoneSet, AllocError> {
+    match start(alloc, program, entry, initialized) {
+        Ok(Some(world)) => done_in::<Brand>(alloc, program, world),
+        Ok(None) => Ok(DoneSet::none()),
+        Err(error) => Err(error),
+    }
+}
+
 fn done_in<O: Origin>(alloc: Global, program: &Program, world: World) -> Result<DoneSet, AllocError>
     requires { world_of world ≡ O.start }
 {
@@ -80,7 +59,7 @@ fn answers_in<O: Origin>(
     alloc: Global,
     program: &Program,
     world: World,
-    plan: &CommitPlan<'_>,
+    plan: &ThreadPlan<'_>,
     others: &DoneSet,
 ) -> Result<String, AllocError>
     requires program { program.now ≡ O.program }
@@ -89,9 +68,18 @@ fn answers_in<O: Origin>(
     let mut book = Book::<O>::new(alloc, world, 10_000);
     let mut text = String::new(alloc);
     for word in plan.words.split_whitespace() {
-        commit_word(
-            alloc, program, &mut book, plan.kind, word, others, &mut text,
-        )?;
+        match commit_word(
+            alloc,
+            program,
+            &mut book,
+            plan.settings,
+            word,
+            others,
+            &mut text,
+        ) {
+            Ok(()) => {}
+            Err(error) => return Err(error),
+        }
     }
     Ok(text)
 }
@@ -108,91 +96,150 @@ fn commit_word<O: Origin>(
 ) -> Result<(), AllocError>
     requires { program.now ≡ O.program }
 {
-    if book.world().thread_count() == 0 {
-        return Ok(());
+    match word {
+        "known" => match book.done(alloc, program) {
+            Ok(known) => commit_over(alloc, program, book, kind, &known, text),
+            Err(error) => Err(error),
+        },
+        "others" => commit_over(alloc, program, book, kind, others, text),
+        "twice" => commit_twice(alloc, program, book, kind, text),
+        _ => commit_over(alloc, program, book, kind, &DoneSet::none(), text),
     }
-    let known = book.done(alloc, program)?;
-    let none = DoneSet::none();
-    let done = match word {
-        "known" => &known,
-        "others" => others,
-        _ => &none,
+}
+
+/// Commits a stretch over these classes.
+fn commit_over<O: Origin>(
+    alloc: Global,
+    program: &Program,
+    book: &mut Book<O>,
+    kind: &str,
+    done: &DoneSet,
+    text: &mut String,
+) -> Result<(), AllocError>
+    requires { program.now ≡ O.program }
+{
+    match make(alloc, program, book, kind, done) {
+        Ok(made) => commit(alloc, program, book, made, text),
+        Err(error) => Err(error),
+    }
+}
+
+/// Commits two stretches that were made at the same place.
+fn commit_twice<O: Origin>(
+    alloc: Global,
+    program: &Program,
+    book: &mut Book<O>,
+    kind: &str,
+    text: &mut String,
+) -> Result<(), AllocError>
+    requires { program.now ≡ O.program }
+{
+    let Ok(first) = make(alloc, program, book, kind, &DoneSet::none()) else {
+        return Err(AllocError);
     };
+    let Ok(other) = make(alloc, program, book, kind, &DoneSet::none()) else {
+        return Err(AllocError);
+    };
+    match commit(alloc, program, book, first, text) {
+        Ok(()) => commit(alloc, program, book, other, text),
+        Err(error) => Err(error),
+    }
+}
+
+/// What a thread made.
+#[derive(Drop)]
+enum MadeStretch<O: Origin> {
+    Frames(Stretch<O>),
+    Front(Option<FrontStretch<O>>),
+}
+
+/// Makes a stretch of the thread from where it is.
+fn make<O: Origin>(
+    alloc: Global,
+    program: &Program,
+    book: &Book<O>,
+    kind: &str,
+    done: &DoneSet,
+) -> Result<MadeStretch<O>, AllocError>
+    requires { program.now ≡ O.program }
+{
+    if book.world().thread_count() == 0 {
+        return Ok(MadeStretch::Front(None));
+    }
     match kind {
-        "frames" => commit_frames(alloc, program, book, done, word == "twice", text),
-        _ => commit_front(alloc, program, book, done, word == "twice", text),
+        "frames" => make_on_frames(alloc, program, book, done),
+        _ => make_on_front(alloc, program, book, done),
     }
 }
 
-fn commit_frames<O: Origin>(
-    alloc: Global,
-    program: &Program,
-    book: &mut Book<O>,
-    done: &DoneSet,
-    is_twice: bool,
-    text: &mut String,
-) -> Result<(), AllocError>
-    requires program { program.now ≡ O.program }
-    requires thread { 0 < length book.old.past.world.threads }
-{
-    let first = stretch::<O>(alloc, program, book.frames(alloc, 0)?, done)?;
-    let other = stretch::<O>(alloc, program, book.frames(alloc, 0)?, done)?;
-    let answer = book.commit(alloc, program, 0, first)?;
-    add_commit(alloc, book, answer, text)?;
-    if is_twice && book.world().thread_count() > 0 {
-        let answer = book.commit(alloc, program, 0, other)?;
-        add_commit(alloc, book, answer, text)?;
-    }
-    Ok(())
-}
-
-fn commit_front<O: Origin>(
-    alloc: Global,
-    program: &Program,
-    book: &mut Book<O>,
-    done: &DoneSet,
-    is_twice: bool,
-    text: &mut String,
-) -> Result<(), AllocError>
-    requires program { program.now ≡ O.program }
-    requires thread { 0 < length book.old.past.world.threads }
-{
-    let first = front_of(alloc, program, book, done)?;
-    let other = front_of(alloc, program, book, done)?;
-    let answer = book.commit_front(alloc, program, 0, first)?;
-    add_commit(alloc, book, answer, text)?;
-    if is_twice && book.world().thread_count() > 0 {
-        let answer = book.commit_front(alloc, program, 0, other)?;
-        add_commit(alloc, book, answer, text)?;
-    }
-    Ok(())
-}
-
-/// A stretch on the thread's front, if it has one.
-fn front_of<O: Origin>(
+fn make_on_frames<O: Origin>(
     alloc: Global,
     program: &Program,
     book: &Book<O>,
     done: &DoneSet,
-) -> Result<Option<FrontStretch<O>>, AllocError>
+) -> Result<MadeStretch<O>, AllocError>
     requires program { program.now ≡ O.program }
     requires thread { 0 < length book.now.past.world.threads }
 {
-    match book.front(alloc, 0)? {
-        Some(frame) => front_stretch::<O>(alloc, program, 0, frame, done),
-        None => Ok(None),
+    let Ok(frames) = book.frames(alloc, 0) else {
+        return Err(AllocError);
+    };
+    match stretch::<O>(alloc, program, frames, done) {
+        Ok(made) => Ok(MadeStretch::Frames(made)),
+        Err(error) => Err(error),
     }
 }
 
-/// Adds what was answered to a commit, and the text of the journal after it.
-fn add_commit<O: Origin>(
+/// A stretch on the thread's front, if it has one.
+fn make_on_front<O: Origin>(
     alloc: Global,
+    program: &Program,
+    book: &Book<O>,
+    done: &DoneSet,
+) -> Result<MadeStretch<O>, AllocError>
+    requires program { program.now ≡ O.program }
+    requires thread { 0 < length book.now.past.world.threads }
+{
+    let frame = match book.front(alloc, 0) {
+        Ok(Some(frame)) => frame,
+        Ok(None) => return Ok(MadeStretch::Front(None)),
+        Err(error) => return Err(error),
+    };
+    match front_stretch::<O>(alloc, program, 0, frame, done) {
+        Ok(made) => Ok(MadeStretch::Front(made)),
+        Err(error) => Err(error),
+    }
+}
+
+/// Commits a stretch.
+fn commit<O: Origin>(
+    alloc: Global,
+    program: &Program,
+    book: &mut Book<O>,
+    made: MadeStretch<O>,
+    text: &mut String,
+) -> Result<(), AllocError>
+    requires { program.now ≡ O.program }
+{
+    if book.world().thread_count() == 0 {
+        return Ok(());
+    }
+    let answer = match made {
+        MadeStretch::Frames(made) => book.commit(alloc, program, 0, made),
+        MadeStretch::Front(made) => book.commit_front(alloc, program, 0, made),
+    };
+    match answer {
+        Ok(answer) => add_commit(book, answer, text),
+        Err(error) => Err(error),
+    }
+}
+
+/// Adds what was answered to a commit, and the journal's last run.
+fn add_commit<O: Origin>(
     book: &Book<O>,
     answer: Commit,
     text: &mut String,
 ) -> Result<(), AllocError> {
-    let runs = Vec::from_slice(alloc, book.journal())?;
-    let journal = Journal::of(runs).text(alloc)?;
-    let journal = from_utf8(&journal).unwrap_or("no text");
-    write!(text, "{answer:?} {journal}")
+    let (thread, steps) = book.journal().last().copied().unwrap_or((0, 0));
+    write!(text, "{answer:?} {thread} {steps};")
 }

@@ -1,46 +1,44 @@
-//! Runs that are asked for.
+//! What is asked of threads.
 
 use crate::threads::gates::{GateRule, Place};
 
 /// No run may take more steps.
 pub const MOST_STEPS: u64 = 1_000_000_000_000;
 
-/// A run of threads: `'ENTRY' .. over 'CLASS' .. | SETTING .. | WORD ..`. `over` and the settings may be left out.
+/// Threads: `'ENTRY' .. over 'CLASS' .. | SETTING .. | WORD ..`. `over` may be left out.
 #[derive(Clone, Copy)]
-pub struct RunPlan<'a> {
+pub struct ThreadPlan<'a> {
     pub entries: &'a str,
-    /// The classes that are initialized at its start.
+    /// The classes that are initialized at the start.
     pub initialized: &'a str,
-    pub rule: GateRule,
-    /// After how many bytes its sink fails: `room=N`.
-    pub room: u64,
-    /// How many steps it may take: `limit=N`.
-    pub limit: u64,
-    /// Whether its journal is replayed: `again`.
-    pub is_replayed: bool,
-    /// What is told of it.
+    /// Of a run: those of its gate, `room=N` for after how many bytes its sink fails, `limit=N` for how many steps it
+    /// may take, and `again` where its journal is replayed.
+    pub settings: &'a str,
+    /// What is told of a run, or committed.
     pub words: &'a str,
 }
 
-impl<'a> RunPlan<'a> {
-    pub fn of(about: &'a str) -> RunPlan<'a> {
-        let (start, rest) = about.split_once(" | ").unwrap_or((about, ""));
-        let (entries, initialized) = start.split_once(" over ").unwrap_or((start, ""));
-        let (settings, words) = rest.split_once(" | ").unwrap_or(("", rest));
-        RunPlan {
+impl<'a> ThreadPlan<'a> {
+    pub fn of(about: &'a str) -> ThreadPlan<'a> {
+        let (start, rest) = halves(about, " | ");
+        let (entries, initialized) = halves(start, " over ");
+        let (settings, words) = halves(rest, " | ");
+        ThreadPlan {
             entries,
             initialized,
-            rule: rule_of(settings),
-            room: number_in(settings, "room=", 1_000),
-            limit: number_in(settings, "limit=", MOST_STEPS),
-            is_replayed: settings.contains("again"),
+            settings,
             words,
         }
     }
 }
 
+/// What stands before a text and behind it, or all and nothing.
+pub fn halves<'a>(text: &'a str, between: &str) -> (&'a str, &'a str) {
+    text.split_once(between).unwrap_or((text, ""))
+}
+
 /// The gate of some settings: `before`, `after` or `across`, for its place, `job=N`, and `open`.
-fn rule_of(settings: &str) -> GateRule {
+pub fn rule_of(settings: &str) -> GateRule {
     GateRule {
         place: place_in(settings),
         job: number_in(settings, "job=", 0),
@@ -61,10 +59,8 @@ fn place_in(settings: &str) -> Place {
 }
 
 /// The number that stands behind a key.
-fn number_in(settings: &str, key: &str, otherwise: u64) -> u64 {
-    let Some((_, rest)) = settings.split_once(key) else {
-        return otherwise;
-    };
-    let (word, _) = rest.split_once(' ').unwrap_or((rest, ""));
+pub fn number_in(settings: &str, key: &str, otherwise: u64) -> u64 {
+    let (_, rest) = halves(settings, key);
+    let (word, _) = halves(rest, " ");
     word.parse::<u64>().unwrap_or(otherwise)
 }

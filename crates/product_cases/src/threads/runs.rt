@@ -1,7 +1,7 @@
 //! Runs of threads at gates.
 
 use crate::threads::gates::{Tape, ThreadGate};
-use crate::threads::plan::{MOST_STEPS, RunPlan};
+use crate::threads::plan::{MOST_STEPS, ThreadPlan, number_in, rule_of};
 use crate::threads::shown::RunShown;
 use crate::threads::starts::start;
 use init_engine::{Seen, World};
@@ -22,7 +22,7 @@ pub fn answer<R: Threads + Wait + Sync>(
     program: &Program,
     about: &str,
 ) -> Result<String, AllocError> {
-    let plan = RunPlan::of(about);
+    let plan = ThreadPlan::of(about);
     match start(alloc, program, plan.entries, plan.initialized) {
         Ok(Some(world)) => answer_from(rt, alloc, program, world, &plan),
         Ok(None) => String::from_str(alloc, "no start"),
@@ -35,9 +35,9 @@ fn answer_from<R: Threads + Wait + Sync>(
     alloc: Global,
     program: &Program,
     world: World,
-    plan: &RunPlan<'_>,
+    plan: &ThreadPlan<'_>,
 ) -> Result<String, AllocError> {
-    let gate = ThreadGate::new(rt, plan.rule, world.thread_count());
+    let gate = ThreadGate::new(rt, rule_of(plan.settings), world.thread_count());
     match performed(rt, alloc, program, world, plan, &gate) {
         Ok(shown) => told(alloc, program, plan, &gate, &shown),
         Err(error) => Err(error),
@@ -50,11 +50,11 @@ fn performed<R: Threads + Wait + Sync>(
     alloc: Global,
     program: &Program,
     world: World,
-    plan: &RunPlan<'_>,
+    plan: &ThreadPlan<'_>,
     gate: &ThreadGate<'_, R>,
 ) -> Result<RunShown, AllocError> {
-    let tape = Tape::new(alloc, plan.room, gate);
-    let limit = plan.limit.min(MOST_STEPS);
+    let tape = Tape::new(alloc, number_in(plan.settings, "room=", 1_000), gate);
+    let limit = number_in(plan.settings, "limit=", MOST_STEPS).min(MOST_STEPS);
     let (answer, tape) = run_threads(rt, alloc, program, world, gate, tape, limit);
     RunShown::of(alloc, answer, tape.got)
 }
@@ -62,13 +62,18 @@ fn performed<R: Threads + Wait + Sync>(
 fn told<R: Wait>(
     alloc: Global,
     program: &Program,
-    plan: &RunPlan<'_>,
+    plan: &ThreadPlan<'_>,
     gate: &ThreadGate<'_, R>,
     shown: &RunShown,
 ) -> Result<String, AllocError> {
-    let mut text = words_told(alloc, gate, shown, plan.words)?;
-    if plan.is_replayed {
-        add_replay(alloc, &mut text, program, plan, shown)?;
+    let Ok(mut text) = words_told(alloc, gate, shown, plan.words) else {
+        return Err(AllocError);
+    };
+    if plan.settings.contains("again") {
+        return match add_replay(alloc, &mut text, program, plan, shown) {
+            Ok(()) => Ok(text),
+            Err(error) => Err(error),
+        };
     }
     Ok(text)
 }
@@ -82,10 +87,15 @@ fn words_told<R: Wait>(
 ) -> Result<String, AllocError> {
     let mut text = String::new(alloc);
     for word in words.split_whitespace() {
-        shown.add_word(&mut text, word)?;
+        match shown.add_word(&mut text, word) {
+            Ok(()) => {}
+            Err(error) => return Err(error),
+        }
     }
-    gate.add_meeting(&mut text)?;
-    Ok(text)
+    match gate.add_meeting(&mut text) {
+        Ok(()) => Ok(text),
+        Err(error) => Err(error),
+    }
 }
 
 /// Adds what the replay of a run's journal comes to.
@@ -93,15 +103,16 @@ fn add_replay(
     alloc: Global,
     text: &mut String,
     program: &Program,
-    plan: &RunPlan<'_>,
+    plan: &ThreadPlan<'_>,
     shown: &RunShown,
 ) -> Result<(), AllocError> {
     let Ok(journal) = Journal::parse(alloc, &shown.journal) else {
         return text.push_str(" no journal");
     };
-    match start(alloc, program, plan.entries, plan.initialized)? {
-        Some(world) => add_seen(text, replay(alloc, program, world, &journal), &shown.got),
-        None => text.push_str(" no start"),
+    match start(alloc, program, plan.entries, plan.initialized) {
+        Ok(Some(world)) => add_seen(text, replay(alloc, program, world, &journal), &shown.got),
+        Ok(None) => text.push_str(" no start"),
+        Err(error) => Err(error),
     }
 }
 

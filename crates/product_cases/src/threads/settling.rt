@@ -3,6 +3,7 @@
 ghost use Rattle.std.specs.Prelude.{IfOk};
 ghost use Rattle.wave_scheduler.specs.Outcomes.{AreJudged};
 
+use crate::threads::plan::halves;
 use crate::threads::worker_gates::{WorkerGate, WorkerRule};
 use initializer_analysis::forced::Forced;
 use initializer_analysis::judge;
@@ -32,14 +33,19 @@ pub fn answer<R: Threads + Wait + Sync>(
     if about == "here" {
         return settled_here(alloc, program);
     }
-    let (workers, word) = about.split_once(' ').unwrap_or((about, ""));
+    let (workers, word) = halves(about, " ");
     let workers = workers.parse::<u32>().unwrap_or(0);
     let gate = WorkerGate::new(rt, rule_of(word), workers);
-    let mut text = settled_by(rt, alloc, program, workers, &gate)?;
-    if !word.is_empty() {
-        gate.add_counts(&mut text)?;
+    let Ok(mut text) = settled_by(rt, alloc, program, workers, &gate) else {
+        return Err(AllocError);
+    };
+    if word.is_empty() {
+        return Ok(text);
     }
-    Ok(text)
+    match gate.add_counts(&mut text) {
+        Ok(()) => Ok(text),
+        Err(error) => Err(error),
+    }
 }
 
 fn rule_of(word: &str) -> WorkerRule {
@@ -64,16 +70,20 @@ fn settled_by<R: Threads + Wait + Sync>(
     workers: u32,
     gate: &WorkerGate<'_, R>,
 ) -> Result<String, AllocError> {
-    let verdicts = verdicts_of(alloc, program)?;
-    told(
-        alloc,
-        settle_all(rt, alloc, program, verdicts, BUDGET, workers, gate),
-    )
+    match verdicts_of(alloc, program) {
+        Ok(verdicts) => told(
+            alloc,
+            settle_all(rt, alloc, program, verdicts, BUDGET, workers, gate),
+        ),
+        Err(error) => Err(error),
+    }
 }
 
 fn settled_here(alloc: Global, program: &Program) -> Result<String, AllocError> {
-    let verdicts = verdicts_of(alloc, program)?;
-    told(alloc, settle_all_here(alloc, program, verdicts, BUDGET))
+    match verdicts_of(alloc, program) {
+        Ok(verdicts) => told(alloc, settle_all_here(alloc, program, verdicts, BUDGET)),
+        Err(error) => Err(error),
+    }
 }
 
 fn told(alloc: Global, answer: Result<Settled, WaveFault>) -> Result<String, AllocError> {
@@ -87,15 +97,18 @@ fn words_of(alloc: Global, settled: &Settled) -> Result<String, AllocError> {
     let mut words = String::new(alloc);
     let count = u32::try_from(settled.verdicts.as_slice().len()).unwrap_or(0);
     for class in 0..count {
-        if class > 0 {
-            words.push(' ')?;
+        match add_word(&mut words, settled, class) {
+            Ok(()) => {}
+            Err(error) => return Err(error),
         }
-        add_word(&mut words, settled, class)?;
     }
     Ok(words)
 }
 
 fn add_word(words: &mut String, settled: &Settled, class: u32) -> Result<(), AllocError> {
+    if class > 0 {
+        words.push(' ')?;
+    }
     match (settled.verdicts.of_class(class), number_of(settled, class)) {
         (Some(Verdict::Wave(wave)), Some(number)) => write!(words, "{wave}:{number}"),
         _ => words.push_str("none"),

@@ -33,9 +33,9 @@ impl RunShown {
         got: Vec<u8>,
     ) -> Result<RunShown, AllocError> {
         match answer {
-            Ok(ended) => of_ended(alloc, "ended", &ended, got),
-            Err(RunFault::Limit(ended)) => of_ended(alloc, "limit", &ended, got),
-            Err(RunFault::Stuck(ended)) => of_ended(alloc, "stuck", &ended, got),
+            Ok(ended) => of_ended(alloc, "ended", ended, got),
+            Err(RunFault::Limit(ended)) => of_ended(alloc, "limit", ended, got),
+            Err(RunFault::Stuck(ended)) => of_ended(alloc, "stuck", ended, got),
             Err(RunFault::Device(sent)) => Ok(without_journal(alloc, "device", sent, got)),
             Err(RunFault::Memory) => Ok(without_journal(alloc, "memory", 0, got)),
             Err(RunFault::Spawn) => Ok(without_journal(alloc, "spawn", 0, got)),
@@ -47,27 +47,16 @@ impl RunShown {
         if !text.is_empty() {
             text.push(' ')?;
         }
-        match self.text(word) {
-            Some(found) => text.push_str(found),
-            None => {
+        match word {
+            "end" => text.push_str(self.end),
+            "over" => text.push_str(over(self.end)),
+            "got" => text.push_str(text_of(&self.got)),
+            "journal" => text.push_str(text_of(&self.journal)),
+            "whole" => text.push_str(if self.is_whole { "whole" } else { "cut" }),
+            _ => {
                 let number = self.number(word);
                 write!(text, "{number}")
             }
-        }
-    }
-
-    fn text(&self, word: &str) -> Option<&str> {
-        match word {
-            "end" => Some(self.end),
-            // Where it depends on the schedule which.
-            "over" if matches!(self.end, "ended" | "stuck") => Some("over"),
-            "over" => Some(self.end),
-            "got" if self.got.is_empty() => Some("nothing"),
-            "got" => Some(from_utf8(&self.got).unwrap_or("no text")),
-            "journal" => Some(from_utf8(&self.journal).unwrap_or("no text")),
-            "whole" if self.is_whole => Some("whole"),
-            "whole" => Some("cut"),
-            _ => None,
         }
     }
 
@@ -83,6 +72,22 @@ impl RunShown {
             _ => 0,
         }
     }
+}
+
+/// `over` for an end that depends on the schedule.
+fn over(end: &'static str) -> &'static str {
+    match end {
+        "ended" => "over",
+        "stuck" => "over",
+        _ => end,
+    }
+}
+
+fn text_of(bytes: &[u8]) -> &str {
+    if bytes.is_empty() {
+        return "nothing";
+    }
+    from_utf8(bytes).unwrap_or("no text")
 }
 
 fn without_journal(alloc: Global, end: &'static str, sent: u128, got: Vec<u8>) -> RunShown {
@@ -101,10 +106,12 @@ fn without_journal(alloc: Global, end: &'static str, sent: u128, got: Vec<u8>) -
 fn of_ended(
     alloc: Global,
     end: &'static str,
-    ended: &Ended,
+    ended: Ended,
     got: Vec<u8>,
 ) -> Result<RunShown, AllocError> {
-    let journal = ended.journal.text(alloc)?;
+    let Ok(journal) = ended.journal.text(alloc) else {
+        return Err(AllocError);
+    };
     let is_whole = ended.seen.printed.text_from(0) == got.as_slice();
     Ok(RunShown {
         end,

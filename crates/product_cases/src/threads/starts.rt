@@ -33,11 +33,18 @@ fn start_over(
 ) -> Result<Option<World>, AllocError>
     requires { length classes.now ≤ 64 }
 {
-    let mut shared = lazy_shared(alloc, program, classes.len())?;
-    if !initialize_all(alloc, program, &mut shared, initialized)? {
-        return Ok(None);
+    let Ok(mut shared) = lazy_shared(alloc, program, classes.len()) else {
+        return Err(AllocError);
+    };
+    match initialize_all(alloc, program, &mut shared, initialized) {
+        Ok(true) => {}
+        Ok(false) => return Ok(None),
+        Err(error) => return Err(error),
     }
-    Ok(Some(World::start(alloc, shared, classes)?))
+    match World::start(alloc, shared, classes) {
+        Ok(world) => Ok(Some(world)),
+        Err(error) => Err(error),
+    }
 }
 
 /// Initializes classes. Answers whether they are there.
@@ -49,9 +56,10 @@ fn initialize_all(
 ) -> Result<bool, AllocError> {
     let names = entries_of(alloc, list)?;
     for name in &names {
-        match program.number_of(alloc, name)? {
-            Some(class) => initialize(alloc, shared, class)?,
-            None => return Ok(false),
+        match program.number_of(alloc, name) {
+            Ok(Some(class)) => initialize(alloc, shared, class)?,
+            Ok(None) => return Ok(false),
+            Err(error) => return Err(error),
         }
     }
     Ok(true)
