@@ -7,7 +7,6 @@ use Rattle.std.proofs.lemmas.List.{drop-append-le, take-append-le, take-append-d
 use Rattle.std.specs.Io.KnownBytes.{Appends}
 use Rattle.vm_state.specs.Output.{Print, text_of}
 use Rattle.thread_runner.specs.Sendings.{AreOfPrints, IsPlace, SendsOn, sent_of}
-use Rattle.sinks.proofs.AppendsLemmas.{appends_then}
 
 -- ---- the text of prints
 
@@ -106,41 +105,3 @@ Holds before got text = (bs : List ℕ) → before ≡ Some bs → got ≡ Some 
 pub holds_appends : (before got : Option (List ℕ)) (text : List ℕ) → Holds before got text → Appends before got text
 holds_appends None got text h = tt
 holds_appends (Some xs) got text h = subst (λ (o : Option (List ℕ)). Appends (Some xs) o text) (sym (h xs refl)) refl
-
-same_bytes : (xs ys : List ℕ) → Some xs ≡ Some ys → xs ≡ ys
-same_bytes xs ys h = cc
-
-grown : (got after : Option (List ℕ)) (xs more : List ℕ) → got ≡ Some xs → Appends got after more
-    → after ≡ Some (xs ++ more)
-grown None after xs more e h = absurd cc
-grown (Some ys) None xs more e h = absurd h
-grown (Some ys) (Some zs) xs more e h = ap Some (h ∙ ap (λ r. r ++ more) (same_bytes ys xs e))
-
--- ---- what went out of prints to which more come
-
--- what went out of some prints, and then of those and more
-pub sent_on : (before got after : Option (List ℕ)) (old new more : List Print) (i n j m : ℕ) → new ≡ old ++ more
-    → IsPlace old i n → Appends before got (take (sent_of old i n) (text_of old))
-    → SendsOn (text_of new) (sent_of new i n) (sent_of new j m) got after
-    → Appends before after (take (sent_of new j m) (text_of new))
-sent_on before got after old new more i n j m grown place had sends =
-    let at : sent_of new i n ≡ sent_of old i n =
-    ap (λ (ls : List Print). sent_of ls i n) grown ∙ sent_stays old more i n place in
-    let same : take (sent_of new i n) (text_of new) ≡ take (sent_of old i n) (text_of old) =
-    ap (λ k. take k (text_of new)) at
-    ∙ (ap (λ (ls : List Print). take (sent_of old i n) (text_of ls)) grown
-    ∙ text_stays old more (sent_of old i n) (place_within old i n place)) in
-    subst (λ (t : List ℕ). Appends before after t) (sym sends.joins)
-    (appends_then before got after (take (sent_of new i n) (text_of new)) sends.piece
-    (subst (λ (t : List ℕ). Appends before got t) (sym same) had) sends.sent)
-
--- the same of prints that were read: the place that was come to, and what went out up to it
-pub slice_sent : (before got after : Option (List ℕ)) (old new now more : List Print) (i n j m : ℕ) → now ≡ new
-    → new ≡ old ++ more → IsPlace old i n → Appends before got (take (sent_of old i n) (text_of old)) → IsPlace now j m
-    → SendsOn (text_of now) (sent_of now i n) (sent_of now j m) got after
-    → IsPlace new j m × Appends before after (take (sent_of new j m) (text_of new))
-slice_sent before got after old new now more i n j m same grown place had there sends = (
-  subst (λ (ls : List Print). IsPlace ls j m) same there,
-  sent_on before got after old new more i n j m grown place had
-      (subst (λ (ls : List Print). SendsOn (text_of ls) (sent_of ls i n) (sent_of ls j m) got after) same sends),
-)

@@ -105,6 +105,23 @@ pub(crate) fn add_some(runs: &mut Vec<(u32, u64)>, thread: u32, steps: u64)
     }
 }
 
+/// Where a run of one thread and at most `limit` steps ends: after the start of its thread and 1,024 steps at a time.
+fn most_steps(limit: u64) -> u64
+    requires { limit ≤ 2 ^ 62 }
+    ensures least { limit ≤ result }
+    ensures most { result < limit + 1024 }
+    ensures none { limit ≡ 0 → result ≡ 0 }
+{
+    if limit == 0 {
+        return 0;
+    }
+    let past = (limit - 1) % 1024;
+    if past == 0 {
+        return limit;
+    }
+    limit + (1024 - past)
+}
+
 impl<O: Origin> History<O> {
     /// The history of a world that is the start, with an empty journal. It takes no memory.
     pub(crate) fn new(alloc: Global, world: World, limit: u64) -> History<O>
@@ -382,12 +399,12 @@ impl<O: Origin> History<O> {
         }
     }
 
-    /// How many steps it may still have.
+    /// How many steps one thread may still make.
     pub(crate) fn room(&self) -> u64
         ensures bounded { steps_of self.now + result < self.now.limit + 1024 }
         ensures whole { self.now.limit ≤ steps_of self.now + result }
     {
-        self.limit.saturating_sub(self.steps)
+        most_steps(self.limit.saturating_sub(self.steps))
     }
 
     /// Runs one thread on in the world itself for a slice, as long as it has a step. It answers how many steps there

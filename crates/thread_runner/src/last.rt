@@ -9,7 +9,6 @@ ghost use Rattle.init_engine.specs.Turnings.{RunsAhead};
 ghost use Rattle.thread_runner.specs.Answers.{HavePrintsGoneOut};
 ghost use Rattle.thread_runner.specs.Kept.{steps_of};
 
-use crate::alone::{BYTES, STEPS};
 use crate::desk::{Desk, Session};
 use crate::history::add_some;
 use courses::step_table::StepTable;
@@ -17,6 +16,12 @@ use init_engine::World;
 use program::Program;
 use sinks::Sink;
 use std::alloc::{AllocError, Global};
+
+/// How many steps are made at most before what was printed goes out.
+const STEPS: u64 = 50_000;
+
+/// After how many bytes of text these go out.
+const BYTES: u64 = 65_536;
 
 /// How far a thread that goes on alone may go before what it printed goes out.
 #[derive(Clone, Copy)]

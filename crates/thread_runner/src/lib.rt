@@ -2,7 +2,6 @@
 #![tactic(auto)]
 
 mod advance;
-mod alone;
 mod answer;
 mod asked;
 mod book;

@@ -4,7 +4,6 @@ ghost use Rattle.std.specs.Prelude.{◌≡◌, ◌<◌, ◌≤◌, ◌^◌, leng
 ghost use Rattle.init_engine.specs.Turns.{world_of};
 ghost use Rattle.thread_runner.specs.Answers.{IsAnswer};
 
-use crate::alone::run_alone;
 use crate::answer::{Ended, RunFault};
 use crate::book::Book;
 use crate::desk::{Desk, Session};
@@ -20,7 +19,8 @@ use std::sync::{Condvar, Mutex, Wait};
 use std::thread;
 use std::thread::Threads;
 
-/// Runs `count` threads to their end, and answers whether all could be started.
+/// Runs `count` threads to their end, and answers whether all could be started. One alone, where nobody asks its gate,
+/// is left to the caller.
 fn run_all<O: Session + Send + Sync, S: Sink + Send + Drop, G: Gate, R: Threads + Wait + Sync>(
     rt: &R,
     alloc: Global,
@@ -33,6 +33,9 @@ fn run_all<O: Session + Send + Sync, S: Sink + Send + Drop, G: Gate, R: Threads 
     requires program { program.now ≡ O.program }
     requires threads { count ≤ length O.start.threads }
 {
+    if count == 1 && gate.is_open() {
+        return true;
+    }
     thread::scope(
         thread::scope_env(),
         rt,
@@ -117,10 +120,5 @@ pub fn run_threads<S: Sink + Send + Drop, G: Gate, R: Threads + Wait + Sync>(
     ensures { IsAnswer program.now (world_of world) limit result.0 (S.got sink) (S.got result.1) (S.failures sink)
         (S.failures result.1) }
 {
-    if world.thread_count() == 1 && gate.is_open() {
-        let mut sink = sink;
-        let answer = run_alone(alloc, program, world, &mut sink, limit);
-        return (answer, sink);
-    }
     run_session::<Brand, S, G, R>(rt, alloc, program, world, gate, sink, limit)
 }
