@@ -40,6 +40,8 @@ pub(crate) enum Untold {
     Class(usize, &'static str),
     /// The entry of this place, and what is wrong with it.
     Entry(usize, &'static str),
+    /// The image is wrong.
+    Image,
     /// A list of classes is wrong, as this text says.
     List(String),
     /// A class lacks a parent.
@@ -145,6 +147,7 @@ fn left_untold(alloc: Global, refusal: &CommandFault) -> Option<Untold> {
             }
             _ => None,
         },
+        CommandFault::Image(_) => Some(Untold::Image),
         CommandFault::Link(fault) => left_of_link(alloc, fault),
         CommandFault::Option(text) => match String::from_str(alloc, text.as_str()) {
             Ok(text) => Some(Untold::List(text)),
@@ -200,17 +203,20 @@ fn meaning(refusal: &CommandFault) -> &'static str {
     match refusal {
         CommandFault::Memory => "the system gave no more memory",
         CommandFault::Link(fault) => link_meaning(fault),
-        CommandFault::Image(_) => "the file is no image, or was changed: build it again",
         CommandFault::Entry(fault) => entry_meaning(fault),
         CommandFault::Option(_) => "a list of classes is wrong",
         CommandFault::Budget => BUDGETS,
         CommandFault::Wave(_) => WORKERS,
-        CommandFault::Text(_) => "a line of a journal is a thread, one space and a number of steps",
+        CommandFault::Text(_) => {
+            "a line of a journal is a thread, one space, a number of steps and a line feed, and nothing else"
+        }
         CommandFault::Turn(_) => "the thread of this line is not there, or has no such steps",
         CommandFault::Spawn => "the system started no thread",
         CommandFault::Device => "standard output was closed, or its device is full",
-        CommandFault::Class(..) | CommandFault::File(..) | CommandFault::List(_) =>
-            "a file is wrong",
+        CommandFault::Class(..)
+        | CommandFault::File(..)
+        | CommandFault::Image(_)
+        | CommandFault::List(_) => "a file is wrong",
     }
 }
 

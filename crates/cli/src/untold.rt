@@ -5,7 +5,7 @@ ghost use Rattle.std.specs.Prelude.{◌≡◌};
 use crate::class_files::class_files;
 use crate::files::contents;
 use crate::meanings::Untold;
-use crate::{CommandFault, Files, Request};
+use crate::{Building, CommandFault, Files, Request};
 use built_in::class_id::BuiltIn;
 use classfile::{ClassFile, printed};
 use std::alloc::{AllocError, Global};
@@ -31,14 +31,25 @@ pub(crate) fn tell_untold<F: Files, E: Write>(
             let file = file.unwrap_or("a class file");
             tell_line(file, *meaning, errors);
         }
-        Untold::Entry(place, meaning) => {
-            let entry = entry_in(request, *place);
-            tell_line(entry, *meaning, errors);
+        Untold::Entry(place, meaning) => match entry_in(request, *place) {
+            "" => tell_line(
+                "''",
+                "this entry is empty: name a class with a main",
+                errors,
+            ),
+            entry => tell_line(entry, *meaning, errors),
+        },
+        Untold::Image => {
+            let image = image_in(request);
+            tell_line(
+                image,
+                "it is no image, or was changed: build it again",
+                errors,
+            );
         }
         Untold::List(text) => {
-            let build_time = build_time_of(request);
-            let build_time = build_time.unwrap_or("");
-            let (name, meaning) = list_meaning(alloc, text.as_str(), build_time);
+            let building = building_of(request);
+            let (name, meaning) = list_meaning(alloc, text.as_str(), building);
             tell_line(name, meaning, errors);
         }
         Untold::Parents | Untold::Twice(_) => {
@@ -53,7 +64,7 @@ fn tell_line<E: Write>(name: &str, meaning: &str, errors: &mut E) {
     let _ = errors.flush();
 }
 
-/// The entry of a place, as it was written; an empty one as two quotes.
+/// The entry of a place, as it was written.
 fn entry_in<'a>(request: &Request<'a>, place: usize) -> &'a str {
     let entries = match request {
         Request::Audit(words) => words.entries,
@@ -63,18 +74,29 @@ fn entry_in<'a>(request: &Request<'a>, place: usize) -> &'a str {
         Request::Run(words) => words.entries,
         Request::Build(_) | Request::Renew(_) | Request::Report(_) => "",
     };
-    match entries.split(',').nth(place) {
-        Some(entry) if !entry.is_empty() => entry,
-        _ => "''",
+    entries.split(',').nth(place).unwrap_or("")
+}
+
+/// The name of the image's file.
+fn image_in<'a>(request: &Request<'a>) -> &'a str {
+    match request {
+        Request::Renew(words) => words.image,
+        Request::Replay(words) => words.image,
+        Request::Run(words) => words.image,
+        Request::Audit(_)
+        | Request::Build(_)
+        | Request::Explain(_)
+        | Request::Lazy(_)
+        | Request::Report(_) => "the image",
     }
 }
 
-/// The list of what is to be initialized at build time.
-fn build_time_of<'a>(request: &Request<'a>) -> Option<&'a str> {
+/// What a build is asked for.
+fn building_of<'r, 'a>(request: &'r Request<'a>) -> Option<&'r Building<'a>> {
     match request {
-        Request::Build(words) => words.building.build_time,
-        Request::Explain(words) => words.building.build_time,
-        Request::Report(words) => words.build_time,
+        Request::Build(words) => Some(&words.building),
+        Request::Explain(words) => Some(&words.building),
+        Request::Report(words) => Some(words),
         Request::Audit(_)
         | Request::Lazy(_)
         | Request::Renew(_)
@@ -83,20 +105,45 @@ fn build_time_of<'a>(request: &Request<'a>) -> Option<&'a str> {
     }
 }
 
-/// What is wrong with a list of classes, by the text that says so: of which place or name, and what.
-fn list_meaning<'a>(alloc: Global, text: &'a str, build_time: &str) -> (&'a str, &'static str) {
+/// Which list has an empty item: the one that is read first, if it has.
+fn list_with_empty(building: Option<&Building<'_>>) -> &'static str {
+    if let Some(building) = building
+        && let Some(list) = building.run_time
+    {
+        for item in list.split(',') {
+            if item.is_empty() {
+                return "--initialize-at-run-time";
+            }
+        }
+    }
+    "--initialize-at-build-time"
+}
+
+/// What is wrong with a list of classes, by the text that says so: of which list or name, and what.
+fn list_meaning<'a>(
+    alloc: Global,
+    text: &'a str,
+    building: Option<&Building<'_>>,
+) -> (&'a str, &'static str) {
     let (word, about) = text.split_once(' ').unwrap_or((text, ""));
     let meaning = match word {
-        "Empty" => "the item of this place in a list, from 0, is empty; take out a comma",
+        "Empty" => {
+            return (
+                list_with_empty(building),
+                "the item of this place, from 0, is empty; take out a comma",
+            );
+        }
         "Unknown" =>
             "no class that is given has this name, or is in this package; write it with dots",
         "Both" => "both lists ask for it; subclasses count at run time, superclasses at build time",
         _ => {
             let (class, _) = about.split_once(' ').unwrap_or((about, ""));
-            return (
-                class,
-                demand_meaning(alloc, class, build_time).unwrap_or(DEMANDED),
-            );
+            let list = match building {
+                Some(building) => building.build_time.unwrap_or(""),
+                None => "",
+            };
+            let meaning = demand_meaning(alloc, class, list);
+            return (class, meaning.unwrap_or(DEMANDED));
         }
     };
     (about, meaning)
