@@ -1,18 +1,22 @@
 -- Runs, step by step, and schedules that have none.
 use Rattle.std.proofs.Common.{◌≡◌, ℕ, zero, suc, ◌+◌, ◌-◌, ◌<◌, ◌≤◌, ◌++◌, List, [], ◌∷◌, Some, None, refl, sym}
-use Rattle.std.proofs.Common.{ap, subst, ◌∙◌, arith, slice_get, replicate, length, get_or, take, append_assoc}
+use Rattle.std.proofs.Common.{◌⊎◌, inl, inr, ap, subst, ◌∙◌, arith, slice_get, replicate, length, get_or, take}
+use Rattle.std.proofs.Common.{append_assoc}
 use Rattle.std.proofs.lemmas.List.{take_more}
 use Rattle.std.proofs.lemmas.Option.{slice_get-get_or}
 use Rattle.init_engine.specs.Schedules.{schedule_of, AreRuns}
+use Rattle.init_engine.specs.Standing.{Standing}
+use Rattle.init_engine.specs.Turnings.{RunsAhead, text_length}
+use Rattle.init_engine.specs.Turns.{world_of}
 use Rattle.init_engine.proofs.ScheduleLemmas.{schedule_of-more}
 use Rattle.thread_runner.specs.declared.replay.ReplayFault.TheVariants.{Turn}
 use Rattle.thread_runner.specs.Replays.ReplayFails.{turn}
 use Rattle.std.proofs.lemmas.List.{replicate-append-replicate}
 use Rattle.semantics.specs.Programs.{Program}
 use Rattle.semantics.specs.Worlds.{World, Run, step, step_of}
-use Rattle.semantics.proofs.RunsLemmas.{run_more, runs_join_lem}
+use Rattle.semantics.proofs.RunsLemmas.{runs_join_lem}
+use Rattle.vm_state.specs.Output.{Print}
 use Rattle.thread_runner.specs.Replays.{IsTurnFault, NoRun, ReplayFails}
-use Rattle.thread_runner.proofs.LocalLemmas.{replicate-more}
 
 same_world : (a b : World) → Some a ≡ Some b → a ≡ b
 same_world a b h = cc
@@ -26,12 +30,34 @@ run_rest P w m last (t ∷ ts) after (next, stepped, rest) (other, also, more) =
     let same : other ≡ next = same_world other next (sym also ∙ stepped) in
     run_rest P next m last ts after rest (subst (λ (x : World). Run P x (ts ++ after) last) same more)
 
-pub stepped_more : (P : Program) (w m v : World) (n t : ℕ) → Run P w (replicate n t) m → step P m t ≡ Some v
-    → Run P w (replicate (n + 1) t) v
-stepped_more P w m v n t run stepped =
-    let e : suc n ≡ n + 1 = omega arith in
-    subst (λ s. Run P w s v) (replicate-more n t ∙ ap (λ k. replicate k t) e)
-    (run_more P w m v (replicate n t) t run stepped)
+-- a run and a further one of the same thread
+pub joined : (P : Program) (w m v : World) (a b c t : ℕ) → a + b ≡ c → Run P w (replicate a t) m
+    → Run P m (replicate b t) v
+    → Run P w (replicate c t) v
+joined P w m v a b c t e one two =
+    subst (λ s. Run P w s v) (replicate-append-replicate a b t ∙ ap (λ k. replicate k t) e)
+    (runs_join_lem P w m v (replicate a t) (replicate b t) one two)
+
+-- before the first step
+pub not_begun : (P : Program) (w : World) (steps t : ℕ) → Run P w (replicate (steps - steps) t) w
+not_begun P w steps t =
+    let e : 0 ≡ steps - steps = omega arith in subst (λ (k : ℕ). Run P w (replicate k t) w) e refl
+
+by_whole : (P : Program) (new : Standing) (t steps bytes made : ℕ) (printed : List Print) → made ≡ 0 → 0 < steps
+    → 0 < bytes → printed ≡ []
+    → (made ≡ steps) ⊎ (bytes ≤ text_length printed) ⊎ (step P (world_of new) t ≡ None)
+    → step P (world_of new) t ≡ None
+by_whole P new t steps bytes made printed none some room silent (inl all) = absurd (omega (arith, none, some, all))
+by_whole P new t steps bytes made printed none some room silent (inr (inl long)) =
+    let e : text_length printed ≡ 0 = ap text_length silent in absurd (omega (arith, room, long, e))
+by_whole P new t steps bytes made printed none some room silent (inr (inr stands)) = stands
+
+-- a thread that made no step, and might have, has none
+pub none_left : (P : Program) (old new : Standing) (t steps bytes made : ℕ) → RunsAhead P t steps bytes made old new
+    → made ≡ 0 → 0 < steps → 0 < bytes
+    → step P (world_of new) t ≡ None
+none_left P old new t steps bytes made ahead none some room =
+    by_whole P new t steps bytes made ahead.printed none some room (ahead.silent none) ahead.whole
 
 first_none : (P : Program) (w last : World) (t : ℕ) (ts : List ℕ) → step P w t ≡ None → ¬ Run P w (t ∷ ts) last
 first_none P w last t ts none (next, stepped, rest) =

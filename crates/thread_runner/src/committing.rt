@@ -6,6 +6,7 @@ use crate::desk::{Desk, Next, Session};
 use crate::done_set::DoneSet;
 use crate::front::{FrontRun, FrontStretch};
 use crate::history::Commit;
+use crate::pace::sum_of;
 use program::Program;
 use sinks::Sink;
 use std::alloc::{AllocError, Global};
@@ -55,6 +56,16 @@ impl<O: Session, S: Sink> Desk<O, S> {
         }
     }
 
+    /// A sum of the local variables of a thread's innermost frame, by which to see whether they stand.
+    pub(crate) fn sum_of_locals(&self, alloc: Global, thread: u32) -> u64
+        requires { thread < length O.start.threads }
+    {
+        match self.book.front(alloc, thread) {
+            Ok(Some(frame)) => sum_of(&frame),
+            Ok(None) | Err(_) => 0,
+        }
+    }
+
     /// A commit, and what it printed into the sink. Where `open` says that nobody asks the gates of threads, the last
     /// one goes on alone.
     pub(crate) fn commit(
@@ -77,7 +88,8 @@ impl<O: Session, S: Sink> Desk<O, S> {
         }
     }
 
-    /// A commit of a run of local instructions alone: nothing was printed, and no other thread waits for it.
+    /// A commit of a run of local instructions alone: nothing was printed, and no other thread waits for it. Where the
+    /// run is too long for what is left up to the limit, its thread begins anew.
     pub(crate) fn commit_run(
         &mut self,
         alloc: Global,
@@ -88,7 +100,7 @@ impl<O: Session, S: Sink> Desk<O, S> {
     {
         match self.book.commit_run(alloc, thread, run) {
             Ok(Commit::Moved) => Ok(Next::Moved),
-            Ok(Commit::Full) => Ok(Next::End),
+            Ok(Commit::Full) if self.book.is_full() => Ok(Next::End),
             Ok(_) => Ok(Next::Again),
             Err(error) => Err(error),
         }

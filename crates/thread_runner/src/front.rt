@@ -16,9 +16,9 @@ use std::marker::{Model, PhantomData};
 use vm_state::frame::{Frame, FrameList, Segment};
 use vm_state::initialization::Frames;
 
-/// Local instructions that one thread did on its innermost frame and on the calls that it made from there: 1,024 at
-/// most, as many as one commit counts. Contracts see that frame, the classes that it asked for, how many instructions
-/// it did, and the frames in the place of that one.
+/// Local instructions that one thread did on its innermost frame and on the calls that it made from there. Contracts
+/// see that frame, the classes that it asked for, how many instructions it did, and the frames in the place of that
+/// one.
 pub(crate) struct FrontRun<O: Origin> {
     from: Frame,
     asked: Vec<u32>,
@@ -28,7 +28,7 @@ pub(crate) struct FrontRun<O: Origin> {
 }
 
 impl<O: Origin> Model for FrontRun<O> {
-    ghost use Rattle.std.specs.Prelude.{◌≡◌, ◌<◌, ◌≤◌};
+    ghost use Rattle.std.specs.Prelude.{◌≡◌, ◌<◌};
     ghost use Rattle.vm_state.specs.Segments.{frames_of};
     ghost use Rattle.thread_runner.specs.Fronts.{FrontReach, LeadsOn};
 
@@ -37,7 +37,7 @@ impl<O: Origin> Model for FrontRun<O> {
     ghost view = { λ s. record { from = s.from; asked = s.asked.items; count = s.count; to = frames_of s.to } };
 
     // Local steps, as many as it counts, lead on from its frame.
-    ghost invariant = { λ s. (0 < s.count) × (s.count ≤ 1024) × LeadsOn O.program
+    ghost invariant = { λ s. (0 < s.count) × LeadsOn O.program
         (record { from = s.from; asked = s.asked.items; count = s.count; to = frames_of s.to }) };
 }
 
@@ -102,7 +102,6 @@ fn run_front<O: Origin>(
     requires program { program.now ≡ O.program }
     requires start { going start ≡ Going (front ∷ []) [] }
     requires some { 0 < most }
-    requires few { most ≤ 1024 }
     ensures { IfOk result (λ made. IsRunUpTo O.program done.now most front made) }
 {
     let mut frames = start;
@@ -145,7 +144,6 @@ pub(crate) fn run_from<O: Origin>(
 ) -> Result<Option<FrontRun<O>>, AllocError>
     requires program { program.now ≡ O.program }
     requires some { 0 < most }
-    requires few { most ≤ 1024 }
     ensures { IfOk result (λ made. IsRunUpTo O.program done.now most front made) }
 {
     match front.copy(alloc) {
@@ -181,7 +179,6 @@ impl<O: Origin> FrontRun<O> {
     pub(crate) fn count(&self) -> u64
         ensures is { result ≡ self.now.count }
         ensures some { 0 < result }
-        ensures most { result ≤ 1024 }
     {
         self.count
     }
@@ -219,11 +216,6 @@ impl<O: Origin> FrontRun<O> {
 }
 
 impl<O: Origin> FrontStretch<O> {
-    /// How many instructions it did.
-    pub(crate) fn count(&self) -> u64 {
-        self.run.count()
-    }
-
     /// As a run.
     pub(crate) fn into_run(self) -> FrontRun<O>
         ensures is { result ≡ self }

@@ -1,7 +1,7 @@
 //! The history of all threads, and the world that it leads to.
 
-ghost use Rattle.std.specs.Prelude.{◌≡◌, ◌+◌, ◌<◌, ◌≤◌, ◌^◌, ◌++◌, [], true, false, Some, None, IfOk, OnErr, OnOk};
-ghost use Rattle.std.specs.Prelude.{length, replicate, vec_len, vec_capacity};
+ghost use Rattle.std.specs.Prelude.{◌≡◌, ◌+◌, ◌<◌, ◌≤◌, ◌^◌, ◌++◌, ◌⊎◌, [], true, false, Some, None, IfOk, OnErr};
+ghost use Rattle.std.specs.Prelude.{OnOk, length, replicate, vec_len, vec_capacity};
 ghost use Rattle.semantics.specs.Worlds.{Run};
 ghost use Rattle.machine.specs.Linked.{program_of};
 ghost use Rattle.init_engine.specs.Schedules.{schedule_of, AreRuns};
@@ -176,6 +176,17 @@ impl<O: Origin> History<O> {
         ensures no { result ≡ false → steps_of self.now < self.now.limit }
     {
         self.steps >= self.limit
+    }
+
+    /// Whether a commit may count so many steps: the journal has not as many as it may, and has fewer than 1,024 more
+    /// after it.
+    fn has_room(&self, count: u64) -> bool
+        ensures below { result ≡ true → steps_of self.now < self.now.limit }
+        ensures yes { result ≡ true → steps_of self.now + count < self.now.limit + 1024 }
+        ensures no { result ≡ false → (self.now.limit ≤ steps_of self.now)
+            ⊎ (self.now.limit + 1024 ≤ steps_of self.now + count) }
+    {
+        self.steps < self.limit && count < self.limit - self.steps + 1_024
     }
 
     /// Whether a stretch begins where its thread is, and the classes are initialized that it takes to be.
@@ -354,8 +365,7 @@ impl<O: Origin> History<O> {
     ) -> Result<(), AllocError>
         requires thread { thread < length self.old.world.threads }
         requires front { (f : Held) × (front_of (world_of self.old.world) thread ≡ Some f) }
-        requires most { count ≤ 1024 }
-        requires below { steps_of self.old < self.old.limit }
+        requires room { steps_of self.old + count < self.old.limit + 1024 }
         requires led { Run (program_of O.program) (world_of self.old.world) (replicate count thread)
             (with_top (world_of self.old.world) thread (frames_of to)) }
         ensures grew { OnOk result (Grew self.old thread (with_top (world_of self.old.world) thread (frames_of to))
@@ -386,13 +396,13 @@ impl<O: Origin> History<O> {
         ensures goes_on { GoesOn self.old self.new }
         ensures memory { OnErr result (Same self.old self.new) }
     {
-        if self.is_full() {
+        let count = run.count();
+        if !self.has_room(count) {
             return Ok(Commit::Full);
         }
         if !self.fits_front(thread, &run) {
             return Ok(Commit::Stale);
         }
-        let count = run.count();
         match self.take_steps(alloc, thread, run.into_top(), count) {
             Ok(()) => Ok(Commit::Moved),
             Err(error) => Err(error),

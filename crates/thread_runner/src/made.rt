@@ -11,12 +11,15 @@ use program::Program;
 use std::alloc::{AllocError, Global};
 use vm_state::frame::Frame;
 
+/// The most instructions of a long run: they take some fifty times as long as its commit.
+const LONGEST: u64 = 32_768;
+
 /// What a thread made outside the lock.
 #[derive(Drop)]
 pub(crate) enum Made<O: Origin> {
     /// A stretch, if its first instruction was local: its commit tries one step more.
     Stretch(Option<FrontStretch<O>>),
-    /// As many local instructions as a commit counts, and a copy of the frame where they ended.
+    /// A run of more local instructions than a stretch has, and a copy of the frame where they ended.
     Run(FrontRun<O>, Frame),
 }
 
@@ -31,7 +34,8 @@ fn made_of<O: Origin>(alloc: Global, run: FrontRun<O>) -> Result<Made<O>, AllocE
     }
 }
 
-/// Runs local instructions of a thread on its innermost frame, if it has one, as many as a commit counts.
+/// Runs local instructions of a thread on its innermost frame, if it has one: as many as one commit counts at the limit
+/// of a run, or more where it may be `long`.
 ///
 /// # Errors
 /// `AllocError` where memory is refused.
@@ -42,13 +46,15 @@ pub(crate) fn make<O: Origin>(
     thread: u32,
     front: Option<Frame>,
     done: &DoneSet,
+    long: bool,
 ) -> Result<Made<O>, AllocError>
     requires { program.now ≡ O.program }
 {
     let Some(frame) = front else {
         return Ok(Made::Stretch(None));
     };
-    match run_from(alloc, program, tools, thread, frame, done, MOST + 1) {
+    let most = if long { LONGEST } else { MOST + 1 };
+    match run_from(alloc, program, tools, thread, frame, done, most) {
         Ok(Some(run)) => made_of(alloc, run),
         Ok(None) => Ok(Made::Stretch(None)),
         Err(error) => Err(error),

@@ -1,6 +1,7 @@
 //! Journals, replayed.
 
 ghost use Rattle.std.specs.Prelude.{◌≡◌, ◌<◌, ◌⊎◌, true, false, IfOk, IfErr, OnOk, length, replicate};
+ghost use Rattle.courses.specs.steps.StepTables.{KeepsSteps};
 ghost use Rattle.semantics.specs.Worlds.{Run};
 ghost use Rattle.machine.specs.Linked.{program_of};
 ghost use Rattle.init_engine.specs.Schedules.{schedule_of, AreRuns};
@@ -8,7 +9,8 @@ ghost use Rattle.init_engine.specs.Turns.{world_of};
 ghost use Rattle.thread_runner.specs.Replays.{IsReplay, NoRun, ReplayFails};
 ghost use Rattle.thread_runner.specs.declared.replay.ReplayFault.TheVariants.{Memory};
 
-use init_engine::{Seen, Turn, World};
+use courses::step_table::StepTable;
+use init_engine::{Seen, World};
 use journal::Journal;
 use program::Program;
 use std::alloc::{AllocError, Global};
@@ -30,25 +32,34 @@ impl From<AllocError> for ReplayFault {
 }
 
 /// Takes `steps` steps of a thread. It answers whether it had them all.
+///
+/// # Errors
+/// `AllocError` where memory is refused; the thread may have lost its frames then.
 fn take_steps(
     alloc: Global,
     program: &Program,
     world: &mut World,
+    table: &mut StepTable,
     thread: u32,
     steps: u64,
 ) -> Result<bool, AllocError>
-    requires { thread < length world.old.threads }
+    requires thread { thread < length world.old.threads }
+    requires keeps { KeepsSteps program.now table.old }
+    ensures keeps { OnOk result (KeepsSteps program.now table.new) }
     ensures yes { IfOk result (λ went. went ≡ true → Run (program_of program.now) (world_of world.old)
         (replicate steps thread) (world_of world.new)) }
     ensures no { IfOk result (λ went. went ≡ false → NoRun (program_of program.now) (world_of world.old)
         (replicate steps thread)) }
-    ensures threads { length world.new.threads ≡ length world.old.threads }
 {
-    for step in 0..steps {
-        match world.step(alloc, program, thread) {
-            Ok(Turn::Moved) => {}
-            Ok(Turn::Waiting) => return Ok(false),
-            Ok(Turn::Ended) => return Ok(false),
+    let mut left = steps;
+    'slices: while left > 0 {
+        match world.run_alone(alloc, program, table, thread, left, u64::MAX) {
+            Ok(made) => {
+                if made == 0 {
+                    return Ok(false);
+                }
+                left -= made;
+            }
             Err(error) => return Err(error),
         }
     }
@@ -60,9 +71,12 @@ fn take_run(
     alloc: Global,
     program: &Program,
     world: &mut World,
+    table: &mut StepTable,
     run: (u32, u64),
 ) -> Result<bool, AllocError>
-    requires { 0 < run.1 }
+    requires some { 0 < run.1 }
+    requires keeps { KeepsSteps program.now table.old }
+    ensures keeps { OnOk result (KeepsSteps program.now table.new) }
     ensures yes { IfOk result (λ went. went ≡ true → Run (program_of program.now) (world_of world.old)
         (replicate run.1 run.0) (world_of world.new)) }
     ensures no { IfOk result (λ went. went ≡ false → NoRun (program_of program.now) (world_of world.old)
@@ -71,7 +85,7 @@ fn take_run(
     if run.0 >= world.thread_count() {
         return Ok(false);
     }
-    take_steps(alloc, program, world, run.0, run.1)
+    take_steps(alloc, program, world, table, run.0, run.1)
 }
 
 /// Takes the steps of runs.
@@ -87,8 +101,9 @@ fn take_runs(
     ensures err { IfErr result
         (λ fault. (fault ≡ Memory) ⊎ ReplayFails (program_of program.now) (world_of world.old) runs.now fault) }
 {
+    let mut table = StepTable::new(alloc);
     for place in 0..runs.len() {
-        match take_run(alloc, program, world, runs[place]) {
+        match take_run(alloc, program, world, &mut table, runs[place]) {
             Ok(true) => {}
             Ok(false) => return Err(ReplayFault::Turn(place + 1)),
             Err(_) => return Err(ReplayFault::Memory),

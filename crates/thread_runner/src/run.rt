@@ -8,14 +8,14 @@ use crate::answer::{Ended, RunFault};
 use crate::book::Book;
 use crate::desk::{Desk, Session};
 use crate::gate::Gate;
-use crate::run_state::RunState;
+use crate::run_lock::RunLock;
 use crate::worker::work;
 use init_engine::World;
 use program::Program;
 use sinks::Sink;
 use std::alloc::Global;
 use std::marker::Brand;
-use std::sync::{Condvar, Mutex, Wait};
+use std::sync::Wait;
 use std::thread;
 use std::thread::Threads;
 
@@ -25,8 +25,7 @@ fn run_all<O: Session + Send + Sync, S: Sink + Send + Drop, G: Gate, R: Threads 
     rt: &R,
     alloc: Global,
     program: &Program,
-    state: &Mutex<RunState<O, S>>,
-    moved: &Condvar,
+    lock: &RunLock<O, S>,
     gate: &G,
     count: u32,
 ) -> bool
@@ -46,11 +45,11 @@ fn run_all<O: Session + Send + Sync, S: Sink + Send + Drop, G: Gate, R: Threads 
                 let one = scope.spawn(
                     move ||
                         requires { (program.now ≡ O.program) × (number < length O.start.threads) }
-                    { work(rt, alloc, program, state, moved, gate, number) },
+                    { work(rt, alloc, program, lock, gate, number) },
                 );
                 if one.is_err() {
-                    state.lock(rt).end();
-                    moved.notify_all();
+                    lock.enter(rt).end();
+                    lock.wake_all();
                     return false;
                 }
             }
@@ -80,11 +79,10 @@ fn run_session<O: Session + Send + Sync, S: Sink + Send + Drop, G: Gate, R: Thre
     let count = world.thread_count();
     let open = gate.is_open();
     let mut desk = Desk::<O, S>::new(Book::new(alloc, world, limit), sink);
-    let moved = Condvar::new();
     for _ in rt.forever() {
-        let state = Mutex::new(RunState::new(desk, open));
-        let started = run_all(rt, alloc, program, &state, &moved, gate, count);
-        let (left, memory) = match state.into_inner().into_desk() {
+        let lock = RunLock::new(desk, open);
+        let started = run_all(rt, alloc, program, &lock, gate, count);
+        let (left, memory) = match lock.into_desk() {
             Ok(left) => left,
             Err(sink) => return (Err(RunFault::Memory), sink),
         };

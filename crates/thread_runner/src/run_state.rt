@@ -12,12 +12,6 @@ use sinks::Sink;
 use std::alloc::{AllocError, Global};
 use std::marker::{Model, PhantomData};
 
-/// After stretches of fewer instructions a thread goes on under the lock.
-const SHORT: u64 = 64;
-
-/// How many steps a thread makes there at most before others may take the lock.
-const COURSE: u64 = 1_000;
-
 /// The sink of a run of which memory was refused in the midst of steps.
 #[derive(Drop)]
 pub(crate) struct LostSink<O: Session, S: Sink> {
@@ -65,19 +59,17 @@ pub(crate) struct RunState<O: Session, S: Sink> {
     moves: u64,
     /// How many threads sleep until another one has moved.
     sleepers: u32,
+    /// How many of these wake up, since one has.
+    waking: u32,
+    /// How often a thread has taken the lock, modulo 2^64.
+    pub(crate) entries: u64,
+    /// How many threads let another one in.
+    pub(crate) letting_in: u32,
     /// Nobody asks the gates of threads.
     open: bool,
     over: bool,
     memory: bool,
     ghost there: { desk ≡ None → lost ≢ None },
-}
-
-/// Whether a stretch is so short that its thread goes on under the lock.
-fn is_short<O: Session>(made: &Option<FrontStretch<O>>) -> bool {
-    match made {
-        Some(stretch) => stretch.count() < SHORT,
-        None => true,
-    }
 }
 
 impl<O: Session, S: Sink + Drop> RunState<O, S> {
@@ -88,10 +80,24 @@ impl<O: Session, S: Sink + Drop> RunState<O, S> {
             lost: None,
             moves: 0,
             sleepers: 0,
+            waking: 0,
+            entries: 0,
+            letting_in: 0,
             open,
             over: false,
             memory: false,
         }
+    }
+
+    /// A thread has taken the lock. It answers whether one lets another in.
+    pub(crate) fn enter(&mut self) -> bool {
+        self.entries = self.entries.wrapping_add(1);
+        self.letting_in > 0
+    }
+
+    /// Whether the run goes on and the lock was taken fewer than so many times since it was taken `entries` times.
+    pub(crate) fn lacks_entries(&self, entries: u64, count: u64) -> bool {
+        !self.over && self.entries.wrapping_sub(entries) < count
     }
 
     /// A thread falls asleep. It answers how many commits have moved a thread.
@@ -100,9 +106,19 @@ impl<O: Session, S: Sink + Drop> RunState<O, S> {
         self.moves
     }
 
-    /// A thread has woken up.
-    pub(crate) fn end_sleep(&mut self) {
+    /// A thread has woken up. It answers whether it is one of those that wake up since another one has moved.
+    pub(crate) fn end_sleep(&mut self) -> bool {
+        let wakes = self.waking > 0;
         self.sleepers = self.sleepers.saturating_sub(1);
+        self.waking = self.waking.saturating_sub(1);
+        wakes
+    }
+
+    /// Those that sleep wake up. It answers how many more than did already.
+    pub(crate) fn wake(&mut self) -> u32 {
+        let more = self.sleepers.saturating_sub(self.waking);
+        self.waking = self.sleepers;
+        more
     }
 
     /// Whether a thread sleeps until another one has moved.
@@ -152,7 +168,8 @@ impl<O: Session, S: Sink + Drop> RunState<O, S> {
         }
     }
 
-    /// A commit of a stretch, if there is one. Where that was short, and nobody asks the gate, the thread goes on.
+    /// A commit of a stretch, if there is one. Where nobody asks the gate the thread then goes on for at most `most`
+    /// steps.
     pub(crate) fn commit(
         &mut self,
         alloc: Global,
@@ -160,6 +177,7 @@ impl<O: Session, S: Sink + Drop> RunState<O, S> {
         tools: &mut Tools<O>,
         thread: u32,
         made: Option<FrontStretch<O>>,
+        most: u64,
     ) -> Next
         requires program { program.now ≡ O.program }
         requires thread { thread < length O.start.threads }
@@ -168,14 +186,13 @@ impl<O: Session, S: Sink + Drop> RunState<O, S> {
             return Next::Leave;
         }
         let open = self.open;
-        let goes_on = open && is_short(&made);
         let Some(desk) = &mut self.desk else {
             return Next::Leave;
         };
         let answer = desk.commit(alloc, program, thread, made, open);
         let next = self.follow(answer);
-        if goes_on && matches!(next, Next::Moved) {
-            self.go_on(alloc, program, tools, thread);
+        if open && matches!(next, Next::Moved) {
+            self.go_on(alloc, program, tools, thread, most);
         }
         next
     }
@@ -213,15 +230,22 @@ impl<O: Session, S: Sink + Drop> RunState<O, S> {
         }
     }
 
-    /// A thread goes on in the world itself, in a course of many instructions.
-    fn go_on(&mut self, alloc: Global, program: &Program, tools: &mut Tools<O>, thread: u32)
+    /// A thread goes on in the world itself, in a course of at most `most` steps.
+    fn go_on(
+        &mut self,
+        alloc: Global,
+        program: &Program,
+        tools: &mut Tools<O>,
+        thread: u32,
+        most: u64,
+    )
         requires program { program.now ≡ O.program }
         requires thread { thread < length O.start.threads }
     {
         let Some(desk) = self.desk.take() else {
             return;
         };
-        match tools.run_slice(alloc, program, desk, thread, COURSE) {
+        match tools.run_course(alloc, program, desk, thread, most) {
             Ok(desk) => {
                 self.over = desk.failed;
                 self.desk = Some(desk);
@@ -245,6 +269,9 @@ impl<O: Session, S: Sink + Drop> RunState<O, S> {
             lost,
             moves: _,
             sleepers: _,
+            waking: _,
+            entries: _,
+            letting_in: _,
             open: _,
             over: _,
             memory,

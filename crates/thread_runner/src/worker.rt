@@ -8,12 +8,13 @@ use crate::front::{FrontRun, FrontStretch};
 use crate::gate::{Gate, ask};
 use crate::known::KnownClasses;
 use crate::made::{Made, make};
-use crate::run_state::RunState;
+use crate::pace::Pace;
+use crate::run_lock::RunLock;
 use crate::tools::Tools;
 use program::Program;
 use sinks::Sink;
 use std::alloc::Global;
-use std::sync::{Condvar, Mutex, Wait};
+use std::sync::Wait;
 use vm_state::frame::Frame;
 
 /// Runs one thread to its end, or to that of the run.
@@ -21,8 +22,7 @@ pub(crate) fn work<O: Session, S: Sink + Drop, G: Gate, R: Wait>(
     rt: &R,
     alloc: Global,
     program: &Program,
-    state: &Mutex<RunState<O, S>>,
-    moved: &Condvar,
+    lock: &RunLock<O, S>,
     gate: &G,
     thread: u32,
 )
@@ -32,44 +32,56 @@ pub(crate) fn work<O: Session, S: Sink + Drop, G: Gate, R: Wait>(
     let mut job = 0u64;
     let mut tools = Tools::<O>::new(alloc);
     let mut known = KnownClasses::none();
-    let locked = LockedState {
-        state,
-        moved,
-        thread,
-    };
+    let mut pace = Pace::new(gate.is_open());
+    let locked = LockedState { lock, thread };
     let mut front = locked.look(rt, alloc, program, known.is_old());
     for _ in rt.forever() {
         let Some(Front { frame, done }) = front else {
-            moved.notify_all();
+            lock.wake_all();
             return;
         };
+        pace.look(&frame);
         ask(gate, thread, job);
         known.renew(done, program.given_count());
-        let made = make(alloc, program, &mut tools, thread, frame, known.done());
+        let (done, long) = (known.done(), pace.is_long());
+        let made = make(alloc, program, &mut tools, thread, frame, done, long);
         gate.done(thread, job);
         let Ok(made) = made else {
-            state.lock(rt).end_for_memory();
-            moved.notify_all();
+            lock.enter(rt).end_for_memory();
+            lock.wake_all();
             return;
         };
-        let (moves, next) = match made {
-            Made::Stretch(stretch) => {
-                locked.commit(rt, alloc, program, &mut tools, stretch, known.is_old())
-            }
-            Made::Run(run, end) => locked.commit_run(rt, alloc, program, run, end),
+        let is_run = matches!(made, Made::Run(_, _));
+        let wants = Wants {
+            most: pace.steps(),
+            asks: known.is_old(),
         };
+        let (moves, next) = locked.commit(rt, alloc, program, &mut tools, made, wants);
         if moves {
             job = job.wrapping_add(1);
+        } else if is_run {
+            pace.shorten();
+        }
+        if next.is_some() && pace.is_over(lock.are_asking()) {
+            lock.let_in(rt);
         }
         front = next;
     }
 }
 
-/// How a run stands, under its lock, and where a thread waits until another one has moved.
+/// What a thread wants of a commit.
+#[derive(Clone, Copy)]
+struct Wants {
+    /// How many steps it goes on for at most, under the lock.
+    most: u64,
+    /// Whether it asks for the classes that are initialized.
+    asks: bool,
+}
+
+/// The lock of a run, and one of its threads.
 #[derive(Drop)]
 struct LockedState<'a, O: Session, S: Sink> {
-    state: &'a Mutex<RunState<O, S>>,
-    moved: &'a Condvar,
+    lock: &'a RunLock<O, S>,
     thread: u32,
 }
 
@@ -78,50 +90,62 @@ impl<'a, O: Session, S: Sink + Drop> LockedState<'a, O, S> {
     fn look<R: Wait>(&self, rt: &R, alloc: Global, program: &Program, asks: bool) -> Option<Front>
         requires { self.now.thread < length O.start.threads }
     {
-        self.state.lock(rt).look(alloc, program, self.thread, asks)
+        self.lock.enter(rt).look(alloc, program, self.thread, asks)
     }
 
-    /// Commits a stretch, if there is one, and answers whether the thread has moved or leaves, and what it takes along
-    /// if it goes on: the lock is taken once for both. A thread that waits sleeps until another one has moved or the
-    /// run is over, and whoever moves or ends it wakes those that sleep, if there are any: to wake nobody is a call of
-    /// the system, too.
+    /// Commits what a thread made, and answers whether it has moved or leaves, and what it takes along if it goes on.
     fn commit<R: Wait>(
         &self,
         rt: &R,
         alloc: Global,
         program: &Program,
         tools: &mut Tools<O>,
+        made: Made<O>,
+        wants: Wants,
+    ) -> (bool, Option<Front>)
+        requires program { program.now ≡ O.program }
+        requires thread { self.now.thread < length O.start.threads }
+    {
+        match made {
+            Made::Stretch(stretch) => {
+                self.commit_stretch(rt, alloc, program, tools, stretch, wants)
+            }
+            Made::Run(run, end) => self.commit_run(rt, alloc, program, run, end),
+        }
+    }
+
+    /// Commits a stretch, if there is one: the lock is taken once for that and for what the thread takes along. One
+    /// that waits sleeps until another one has moved or the run is over, and whoever moves wakes those that sleep.
+    fn commit_stretch<R: Wait>(
+        &self,
+        rt: &R,
+        alloc: Global,
+        program: &Program,
+        tools: &mut Tools<O>,
         made: Option<FrontStretch<O>>,
-        asks: bool,
+        wants: Wants,
     ) -> (bool, Option<Front>)
         requires program { program.now ≡ O.program }
         requires thread { self.now.thread < length O.start.threads }
     {
         let thread = self.thread;
-        let mut guard = self.state.lock(rt);
-        let (moves, front) = match guard.commit(alloc, program, tools, thread, made) {
+        let mut guard = self.lock.enter(rt);
+        let Wants { most, asks } = wants;
+        let front = match guard.commit(alloc, program, tools, thread, made, most) {
             Next::Sleep => {
-                let moves = guard.begin_sleep();
-                let mut guard = self
-                    .moved
-                    .wait_while(rt, guard, |state| state.is_same(moves));
-                guard.end_sleep();
+                let mut guard = self.lock.sleep(rt, guard);
                 return (false, guard.look(alloc, program, thread, asks));
             }
-            Next::Leave | Next::End => (true, None),
-            Next::Again => (false, guard.look(alloc, program, thread, asks)),
-            Next::Moved => (true, guard.look(alloc, program, thread, asks)),
+            Next::Leave | Next::End => return (true, None),
+            Next::Again => return (false, guard.look(alloc, program, thread, asks)),
+            Next::Moved => guard.look(alloc, program, thread, asks),
         };
-        let wakes = moves && guard.has_sleepers();
-        drop(guard);
-        if wakes {
-            self.moved.notify_all();
-        }
-        (moves, front)
+        self.lock.wake(guard);
+        (true, front)
     }
 
-    /// Commits a run, and answers whether the thread has moved or leaves, and what it takes along if it goes on: the
-    /// copy that it made of the frame where the run ended. Nobody waits for local instructions, so none is woken.
+    /// Commits a run. The thread takes along the copy that it made of the frame where it ended. Nobody waits for local
+    /// instructions, so none is woken.
     fn commit_run<R: Wait>(
         &self,
         rt: &R,
@@ -132,7 +156,7 @@ impl<'a, O: Session, S: Sink + Drop> LockedState<'a, O, S> {
     ) -> (bool, Option<Front>)
         requires { self.now.thread < length O.start.threads }
     {
-        let mut guard = self.state.lock(rt);
+        let mut guard = self.lock.enter(rt);
         match guard.commit_run(alloc, self.thread, run) {
             Next::Moved => {
                 let frame = Some(end);

@@ -27,7 +27,6 @@ invariant_of-result g c =
       to = frames_of c.in-Some.to;
     } in (
       omega (arith, c.if-count-eq0.false),
-      omega (arith, c.in-Ok.ensures.most, c.requires.few),
       subst (λ (P : Tables). LeadsOn P s) c.requires.program
           (leads_on c.args.program.now c.args.front c.args.most c.in-Ok.count c.args.start c.run_local.new.frames
           c.requires.start c.in-Some.to c.in-Some.is c.in-Ok.asked.items c.in-Ok.ensures.wide),

@@ -29,7 +29,7 @@ returns-in-Ok-clause-answer g c =
     let w = world_of old.world in
     let t = c.args.thread in
     let new = c.take_steps.new.self in (
-      c.is_full.ensures.no c.if-is_full.false,
+      c.has_room.ensures.below c.if-not-has_room.false,
       c.fits_front.ensures.yes c.if-not-fits_front.false,
       subst (λ k. Grew old t (with_top w t c.args.run.to) k new) c.count-count.ensures.is
           (subst (λ (fs : List Frame). Grew old t (with_top w t fs) c.count-count.result new) c.into_top.ensures.is

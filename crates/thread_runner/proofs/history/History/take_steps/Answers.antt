@@ -1,4 +1,4 @@
-use Rattle.std.proofs.Common.{◌≡◌, ◌<◌, Some, sym, subst, refl, arith, replicate}
+use Rattle.std.proofs.Common.{◌≡◌, ◌+◌, ◌<◌, Some, sym, subst, refl, arith, replicate}
 use Rattle.vm_state.specs.declared.frame.Frame.{Frame}
 use Rattle.vm_state.specs.Segments.{frames_of}
 use Rattle.semantics.specs.Worlds.{Run, World}
@@ -8,7 +8,7 @@ use Rattle.init_engine.specs.Turns.{world_of}
 use Rattle.thread_runner.specs.Commits.{GoesOn, Grew}
 use Rattle.thread_runner.specs.Fronts.{with_top}
 use Rattle.thread_runner.specs.Kept.{Past, steps_of}
-use Rattle.thread_runner.proofs.BookLemmas.{goes_none, goes_still, keeps, longer, past_of, schedule_grown}
+use Rattle.thread_runner.proofs.BookLemmas.{goes_none, goes_still, keeps_more, longer, past_of, schedule_grown}
 use Rattle.thread_runner.proofs.FrontLemmas.{put_there}
 use Rattle.thread_runner.proofs.history.History.take_steps.Goals as goal
 
@@ -41,12 +41,12 @@ invariant_of-self-2 g c =
     (sym c.self.view_is) c.requires.led in
     let schedule = schedule_grown h.journal c.reserve.new.self.items j t n n c.add_some.ensures.schedule
     c.reserve.ensures.items refl in
-    let below : steps_of h < h.limit =
-    subst (λ (x : Past). steps_of x < x.limit) (sym c.self.view_is) c.requires.below in (
+    let room : steps_of h + n < h.limit + 1024 =
+    subst (λ (x : Past). steps_of x + n < x.limit + 1024) (sym c.self.view_is) c.requires.room in (
       omega (arith, c.self.invariant.0, longer h.journal j n t schedule),
-      keeps P g.O.Origin.start h c.put_in.new.world j n t c.self.invariant.1
+      keeps_more P g.O.Origin.start h c.put_in.new.world j n t c.self.invariant.1
           (subst (λ (v : World). Run (program_of P) (world_of h.world) (replicate n t) v) (sym there) led) schedule
-          c.add_some.ensures.runs below c.requires.most,
+          c.add_some.ensures.runs room,
     )
 
 pub returns-clause-grew : goal.returns-clause-grew

@@ -1,0 +1,133 @@
+//! The lock of a run, who asks for it, and where threads sleep.
+
+ghost use Rattle.std.specs.Prelude.{IfErr};
+ghost use Rattle.thread_runner.specs.Answers.{HavePrintsGoneOut};
+
+use crate::desk::{Desk, Session};
+use crate::run_state::RunState;
+use sinks::Sink;
+use std::sync::atomic::{AtomicU64, Ordering};
+use std::sync::{Condvar, Mutex, MutexGuard, Wait};
+
+/// The state of a run under its lock. Whoever takes the lock says before that it asks for it, and wakes those who let
+/// others in.
+#[derive(Drop)]
+pub(crate) struct RunLock<O: Session, S: Sink> {
+    state: Mutex<RunState<O, S>>,
+    /// Where threads sleep until another one has moved.
+    moved: Condvar,
+    /// Where those sleep who let another one in.
+    entered: Condvar,
+    /// How many threads ask for the lock, or wake up and will.
+    asking: AtomicU64,
+}
+
+impl<O: Session, S: Sink + Drop> RunLock<O, S> {
+    /// Before the threads are started.
+    pub(crate) fn new(desk: Desk<O, S>, open: bool) -> RunLock<O, S> {
+        RunLock {
+            state: Mutex::new(RunState::new(desk, open)),
+            moved: Condvar::new(),
+            entered: Condvar::new(),
+            asking: AtomicU64::new(0),
+        }
+    }
+
+    /// How many threads ask for the lock, or wake up and will. None of them lets others in.
+    fn asking(&self) -> u64 {
+        self.asking.load(Ordering::SeqCst)
+    }
+
+    /// Whether others ask for the lock.
+    pub(crate) fn are_asking(&self) -> bool {
+        self.asking() > 0
+    }
+
+    /// Takes the lock.
+    pub(crate) fn enter<'a, R: Wait>(&'a self, rt: &R) -> MutexGuard<'a, RunState<O, S>> {
+        self.asking.fetch_add(1, Ordering::SeqCst);
+        let guard = self.state.lock(rt);
+        self.asking.fetch_sub(1, Ordering::SeqCst);
+        self.entered_by(guard)
+    }
+
+    /// Notes that a thread has the lock now.
+    fn entered_by<'a>(
+        &self,
+        guard: MutexGuard<'a, RunState<O, S>>,
+    ) -> MutexGuard<'a, RunState<O, S>> {
+        let mut guard = guard;
+        if guard.enter() {
+            self.entered.notify_all();
+        }
+        guard
+    }
+
+    /// Lets all others in that ask for the lock, while the run goes on. It ends, since each of them will have the lock,
+    /// and wakes this one then. To let in one alone would leave the lock to two threads that wait in loops.
+    pub(crate) fn let_in<R: Wait>(&self, rt: &R) {
+        let mut guard = self.enter(rt);
+        let count = self.asking();
+        if count == 0 {
+            return;
+        }
+        let entries = guard.entries;
+        guard.letting_in = guard.letting_in.saturating_add(1);
+        let mut guard = self
+            .entered
+            .wait_while(rt, guard, |state| state.lacks_entries(entries, count));
+        guard.letting_in = guard.letting_in.saturating_sub(1);
+        let _guard = self.entered_by(guard);
+    }
+
+    /// Sleeps until another thread has moved or the run is over.
+    pub(crate) fn sleep<'a, R: Wait>(
+        &self,
+        rt: &R,
+        guard: MutexGuard<'a, RunState<O, S>>,
+    ) -> MutexGuard<'a, RunState<O, S>> {
+        let mut guard = guard;
+        let moves = guard.begin_sleep();
+        let mut guard = self
+            .moved
+            .wait_while(rt, guard, |state| state.is_same(moves));
+        if guard.end_sleep() {
+            self.asking.fetch_sub(1, Ordering::SeqCst);
+        }
+        self.entered_by(guard)
+    }
+
+    /// Lets go of the lock after a commit that moved a thread, and wakes those that sleep, if there are any: to wake
+    /// nobody is a call of the system, too.
+    pub(crate) fn wake(&self, guard: MutexGuard<'_, RunState<O, S>>) {
+        let mut guard = guard;
+        let wakes = guard.has_sleepers();
+        let more = guard.wake();
+        self.asking.fetch_add(more as u64, Ordering::SeqCst);
+        drop(guard);
+        if wakes {
+            self.moved.notify_all();
+        }
+    }
+
+    /// Wakes those that sleep, since the run is over.
+    pub(crate) fn wake_all(&self) {
+        self.moved.notify_all();
+    }
+
+    /// Once the threads were joined: the desk, and whether memory was refused.
+    ///
+    /// # Errors
+    /// The sink, where memory was refused in the midst of steps.
+    pub(crate) fn into_desk(self) -> Result<(Desk<O, S>, bool), S>
+        ensures { IfErr result (λ s. HavePrintsGoneOut O.program O.start O.before (S.got s)) }
+    {
+        let RunLock {
+            state,
+            moved: _,
+            entered: _,
+            asking: _,
+        } = self;
+        state.into_inner().into_desk()
+    }
+}
