@@ -57,12 +57,7 @@ fn ask_over<R: Threads + Wait + Sync>(rt: &R, answer: &mut Answer, lines: &str, 
     }
 }
 
-fn of_shelf<R: Threads + Wait + Sync>(
-    rt: &R,
-    answer: &mut Answer,
-    shelf: &mut Shelf,
-    asked: &str,
-) {
+fn of_shelf<R: Threads + Wait + Sync>(rt: &R, answer: &mut Answer, shelf: &mut Shelf, asked: &str) {
     match asked.strip_prefix("preinit") {
         Some(words) => of_commands(rt, answer, shelf, words),
         None => of_part(answer, shelf, asked),

@@ -60,12 +60,7 @@ fn is_built<R: Threads + Wait + Sync>(
 ///   many went out, of how many each.
 /// - `swapped PLACE PLACE` and `then BYTE`, what reading it answers with two class files in each other's place, or with
 ///   a byte more before the digest. The digest is made anew.
-pub fn ask<R: Threads + Wait + Sync>(
-    rt: &R,
-    answer: &mut Answer,
-    files: &[Vec<u8>],
-    asked: &str,
-) {
+pub fn ask<R: Threads + Wait + Sync>(rt: &R, answer: &mut Answer, files: &[Vec<u8>], asked: &str) {
     let bytes = built(rt, answer, files);
     let (word, about) = asked.split_once(' ').unwrap_or((asked, ""));
     match word {
@@ -180,7 +175,12 @@ fn add_numbered(answer: &mut Answer, last: &mut String, number: usize, bytes: &[
 fn add_cuts(answer: &mut Answer, bytes: &[u8]) {
     let mut last = String::new(answer.alloc);
     for length in 0..bytes.len() {
-        add_numbered(answer, &mut last, length, bytes.get(..length).unwrap_or(&[]));
+        add_numbered(
+            answer,
+            &mut last,
+            length,
+            bytes.get(..length).unwrap_or(&[]),
+        );
     }
 }
 
@@ -201,13 +201,7 @@ fn put(bytes: &mut [u8], offset: usize, byte: u8) {
 }
 
 /// With two class files in each other's place.
-fn add_swapped(
-    answer: &mut Answer,
-    files: &[Vec<u8>],
-    bytes: &[u8],
-    first: usize,
-    second: usize,
-) {
+fn add_swapped(answer: &mut Answer, files: &[Vec<u8>], bytes: &[u8], first: usize, second: usize) {
     let mut other = answer.copied(bytes.get(..HEADER).unwrap_or(&[]));
     for place in 0..files.len() {
         let taken = if place == first {

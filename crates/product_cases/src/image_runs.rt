@@ -11,12 +11,7 @@ use std::thread::Threads;
 
 /// Asked are `turns 'CLASS' ..`, a run by turns of these entries, and `schedule 'CLASS' .. | THREAD STEPS ..`, steps by
 /// a schedule. The answers are as for a run of the classes.
-pub fn ask<R: Threads + Wait + Sync>(
-    rt: &R,
-    answer: &mut Answer,
-    files: &[Vec<u8>],
-    asked: &str,
-) {
+pub fn ask<R: Threads + Wait + Sync>(rt: &R, answer: &mut Answer, files: &[Vec<u8>], asked: &str) {
     let (word, about) = asked.split_once(' ').unwrap_or((asked, ""));
     let _count = run(rt, answer, files, &Question::plain(word, about));
 }

@@ -91,13 +91,7 @@ impl Subject for About {
 }
 
 impl About {
-    fn ask<R: Threads + Wait + Sync>(
-        &self,
-        rt: &R,
-        answer: &mut Answer,
-        given: &str,
-        asked: &str,
-    ) {
+    fn ask<R: Threads + Wait + Sync>(&self, rt: &R, answer: &mut Answer, given: &str, asked: &str) {
         match self {
             About::Codes => codes::ask(answer, given, asked),
             About::ClassFiles => class_files::ask(answer, given, asked),

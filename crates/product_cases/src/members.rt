@@ -127,13 +127,7 @@ pub fn add_special(answer: &mut Answer, program: &Program, class: &str, index: u
     }
 }
 
-fn add_special_of(
-    answer: &mut Answer,
-    program: &Program,
-    class: u32,
-    method: Method,
-    index: u16,
-) {
+fn add_special_of(answer: &mut Answer, program: &Program, class: u32, method: Method, index: u16) {
     let asking = number_of(answer, program, "Asking");
     match named_class(program, asking, index) {
         Some(named) => {

@@ -93,12 +93,7 @@ fn index_of(asking: &mut ClassBuilder, reference: &str) -> Result<u16, AllocErro
     }
 }
 
-fn asked_from<'a>(
-    file: SpelledBytes,
-    word: &'a str,
-    class: &'a str,
-    index: u16,
-) -> Question<'a> {
+fn asked_from<'a>(file: SpelledBytes, word: &'a str, class: &'a str, index: u16) -> Question<'a> {
     Question {
         word: if file.misspelled.is_empty() { word } else { "" },
         class,

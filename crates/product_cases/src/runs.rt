@@ -79,7 +79,12 @@ pub fn ask(answer: &mut Answer, program: &Program, question: &Question<'_>) {
 }
 
 /// Asks about runs from a world.
-pub fn ask_world(answer: &mut Answer, program: &Program, question: &Question<'_>, mut world: World) {
+pub fn ask_world(
+    answer: &mut Answer,
+    program: &Program,
+    question: &Question<'_>,
+    mut world: World,
+) {
     match question.word {
         "run" => add_run(answer, program, world, question.count),
         "show" => add_shown(answer, program, world),

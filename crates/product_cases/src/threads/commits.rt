@@ -113,12 +113,7 @@ fn commit_over<O: Origin>(
 }
 
 /// Commits two stretches that were made at the same place.
-fn commit_twice<O: Origin>(
-    answer: &mut Answer,
-    program: &Program,
-    book: &mut Book<O>,
-    kind: &str,
-)
+fn commit_twice<O: Origin>(answer: &mut Answer, program: &Program, book: &mut Book<O>, kind: &str)
     requires { program.now ≡ O.program }
 {
     let Ok(first) = make(answer.alloc, program, book, kind, &DoneSet::none()) else {

@@ -17,12 +17,7 @@ use thread_runner::run_threads;
 /// Asked is a run (`plan.rt`). Answered is what its words ask for (`shown.rt`), then `met` where threads waited for one
 /// another and all came, and then of the replay of its journal, where it is asked for, how often the threads print, and
 /// `same` where they print what the sink got.
-pub fn ask<R: Threads + Wait + Sync>(
-    rt: &R,
-    answer: &mut Answer,
-    program: &Program,
-    about: &str,
-) {
+pub fn ask<R: Threads + Wait + Sync>(rt: &R, answer: &mut Answer, program: &Program, about: &str) {
     let plan = ThreadPlan::of(about);
     match start(answer.alloc, program, plan.entries, plan.initialized) {
         Ok(Some(world)) => run_from(rt, answer, program, world, &plan),

@@ -25,12 +25,7 @@ const BUDGET: u64 = 1_000;
 ///
 /// Answered is a word for each class, its wave and the number that its first static field holds, or `none` where it is
 /// refused. Where none is settled it is why.
-pub fn ask<R: Threads + Wait + Sync>(
-    rt: &R,
-    answer: &mut Answer,
-    program: &Program,
-    about: &str,
-) {
+pub fn ask<R: Threads + Wait + Sync>(rt: &R, answer: &mut Answer, program: &Program, about: &str) {
     if about == "here" {
         return settle_here(answer, program);
     }
