@@ -18,14 +18,17 @@ pub fn ask(answer: &mut Answer, given: &str, asked: &str) {
 pub fn files_of(answer: &mut Answer, given: &str) -> Option<Vec<Vec<u8>>> {
     let mut files = Vec::new(answer.alloc);
     match add_class_files(answer.alloc, &mut files, given) {
-        Ok(misspelled) if misspelled.is_empty() => return Some(files),
+        Ok(misspelled) if misspelled.is_empty() => Some(files),
         Ok(misspelled) => {
             answer.word("misspelled");
-            answer.word(&misspelled)
+            answer.word(&misspelled);
+            None
         }
-        Err(_) => answer.refuse(),
+        Err(_) => {
+            answer.refuse();
+            None
+        }
     }
-    None
 }
 
 fn of_file(answer: &mut Answer, file: &[u8], asked: &str) {

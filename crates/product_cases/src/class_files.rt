@@ -63,22 +63,26 @@ fn overwritten(alloc: Global, given: &str, change: &str) -> Result<SpelledBytes,
         return Err(AllocError);
     };
     match spelled(alloc, given) {
-        Ok(file) => overwrite(file, offset.parse().unwrap_or(usize::MAX), &other),
+        Ok(file) => joined(file, offset.parse().unwrap_or(usize::MAX), &other),
         Err(error) => Err(error),
     }
 }
 
-fn overwrite(
+fn joined(
     mut file: SpelledBytes,
     offset: usize,
     other: &SpelledBytes,
 ) -> Result<SpelledBytes, AllocError> {
-    for (place, byte) in file.bytes.iter_mut().skip(offset).zip(&other.bytes) {
-        *place = *byte;
-    }
+    overwrite(&mut file.bytes, offset, &other.bytes);
     match file.misspelled.push_str(&other.misspelled) {
         Ok(()) => Ok(file),
         Err(error) => Err(error),
+    }
+}
+
+fn overwrite(bytes: &mut Vec<u8>, offset: usize, others: &[u8]) {
+    for (place, byte) in bytes.iter_mut().skip(offset).zip(others) {
+        *place = *byte;
     }
 }
 
@@ -131,7 +135,9 @@ fn add_count(answer: &mut Answer, count: usize, what: &str) {
 /// What stands at the first indices of the pool.
 fn add_entries(answer: &mut Answer, class: &ClassFile) {
     for index in 1..6 {
-        answer.separate(", ");
+        if 1 < index {
+            answer.word(", ");
+        }
         if class.constant(index).is_none() {
             answer.word("no entry ");
         }

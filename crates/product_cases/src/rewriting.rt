@@ -25,9 +25,10 @@ pub fn rewritten(alloc: Global, bytes: &[u8]) -> Result<String, AllocError> {
 
 /// Adds the class of a file to others, where it can be read.
 pub fn add_class(answer: &mut Answer, classes: &mut Vec<ClassFile>, bytes: &[u8]) {
-    if let Ok(class) = read(answer.alloc, bytes)
-        && classes.push(class).is_err()
-    {
+    let Ok(class) = read(answer.alloc, bytes) else {
+        return;
+    };
+    if classes.push(class).is_err() {
         answer.refuse()
     }
 }
