@@ -309,7 +309,10 @@ where
     let mut all_well = true;
     let mut classes = Vec::new(rt.alloc());
     for word in env::args(rt)?.skip(1) {
-        all_well &= do_word(rt, out, &word, &mut classes)?;
+        match do_word(rt, out, &word, &mut classes) {
+            Ok(is_well) => all_well &= is_well,
+            Err(error) => return Err(error),
+        }
     }
     Ok(all_well)
 }

@@ -8,17 +8,11 @@ use program::{Field, Method, Program, Unresolved};
 
 /// The number of the given class of a name.
 pub fn number_of(answer: &mut Answer, program: &Program, class: &str) -> Option<u32> {
-    match ClassName::from_text(answer.alloc, class) {
-        Ok(name) => number_of_name(answer, program, &name),
-        Err(_) => {
-            answer.refuse();
-            None
-        }
-    }
-}
-
-fn number_of_name(answer: &mut Answer, program: &Program, name: &ClassName) -> Option<u32> {
-    match program.number_of(answer.alloc, name) {
+    let Ok(name) = ClassName::from_text(answer.alloc, class) else {
+        answer.refuse();
+        return None;
+    };
+    match program.number_of(answer.alloc, &name) {
         Ok(number) => number,
         Err(_) => {
             answer.refuse();
@@ -94,7 +88,7 @@ pub fn add_field(answer: &mut Answer, program: &Program, index: u16) {
 /// The method that an index of the pool of `Asking` resolves to.
 pub fn add_resolved(answer: &mut Answer, program: &Program, index: u16) {
     match resolved(answer, program, index) {
-        Ok(method) => add_method(answer, program, method),
+        Ok(method) => add_found(answer, program, Some(method)),
         Err(why) => answer.debug(&why),
     }
 }
@@ -140,7 +134,10 @@ fn add_special_of(answer: &mut Answer, program: &Program, class: u32, method: Me
 
 /// The class that a method reference names.
 fn named_class(program: &Program, asking: Option<u32>, index: u16) -> Option<ClassId> {
-    match program.constant(asking?, index) {
+    let Some(asking) = asking else {
+        return None;
+    };
+    match program.constant(asking, index) {
         Some(RuntimeConstant::Method(reference) | RuntimeConstant::InterfaceMethod(reference)) => {
             reference.class
         }
@@ -159,28 +156,18 @@ fn class_id(answer: &mut Answer, program: &Program, name: &str) -> Option<ClassI
     }
     match BuiltIn::named(name.as_bytes()) {
         Some(class) => Some(ClassId::BuiltIn(class)),
-        None => given_id(number_of(answer, program, name)),
-    }
-}
-
-fn given_id(number: Option<u32>) -> Option<ClassId> {
-    match number {
-        Some(number) => Some(ClassId::Given(number)),
-        None => None,
+        None => match number_of(answer, program, name) {
+            Some(number) => Some(ClassId::Given(number)),
+            None => None,
+        },
     }
 }
 
 fn add_found(answer: &mut Answer, program: &Program, found: Option<Method>) {
     match found {
-        Some(method) => add_method(answer, program, method),
+        Some(Method::Given { class, index }) => add_member(answer, program, class, index),
+        Some(Method::BuiltIn(member)) => answer.debug(&member),
         None => answer.word("nothing"),
-    }
-}
-
-fn add_method(answer: &mut Answer, program: &Program, method: Method) {
-    match method {
-        Method::Given { class, index } => add_member(answer, program, class, index),
-        Method::BuiltIn(member) => answer.debug(&member),
     }
 }
 

@@ -93,7 +93,13 @@ fn of_files(answer: &mut Answer, files: &[Vec<u8>], question: &Question<'_>) {
 pub fn classes_of(alloc: Global, files: &[Vec<u8>]) -> Result<Vec<ClassFile>, ClassFault> {
     let mut classes = Vec::new(alloc);
     for bytes in files {
-        classes.push(read(alloc, bytes)?)?;
+        let class = match read(alloc, bytes) {
+            Ok(class) => class,
+            Err(fault) => return Err(fault),
+        };
+        if classes.push(class).is_err() {
+            return Err(ClassFault::Memory);
+        }
     }
     Ok(classes)
 }
