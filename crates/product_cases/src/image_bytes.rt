@@ -160,15 +160,18 @@ fn add_numbered(answer: &mut Answer, last: &mut String, number: usize, bytes: &[
     let mut reading = Answer::new(answer.alloc);
     add_reading(&mut reading, bytes);
     match reading.finish() {
-        Ok(text) if text.as_str() == last.as_str() => {}
-        Ok(text) => {
-            answer.separate(", ");
-            answer.show(&number);
-            answer.word(" ");
-            answer.word(&text);
-            *last = text
-        }
+        Ok(text) => add_change(answer, last, number, text),
         Err(_) => answer.refuse(),
+    }
+}
+
+fn add_change(answer: &mut Answer, last: &mut String, number: usize, text: String) {
+    if text.as_str() != last.as_str() {
+        answer.separate(", ");
+        answer.show(&number);
+        answer.word(" ");
+        answer.word(&text);
+        *last = text
     }
 }
 

@@ -289,14 +289,15 @@ fn is_reported<R: Threads + Wait + Sync>(
 
 /// Whether a text is what is wanted. It is added where it is not, after some words.
 fn is_wanted(answer: &mut Answer, before: &str, text: Answer, wanted: &str) -> bool {
-    match text.finish() {
-        Ok(text) if text.as_str() == wanted => return true,
-        Ok(text) => {
-            answer.word(before);
-            answer.word(&text)
-        }
-        Err(_) => answer.refuse(),
+    let Ok(text) = text.finish() else {
+        answer.refuse();
+        return false;
+    };
+    if text.as_str() == wanted {
+        return true;
     }
+    answer.word(before);
+    answer.word(&text);
     false
 }
 

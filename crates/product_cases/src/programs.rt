@@ -71,14 +71,13 @@ pub fn add_file(answer: &mut Answer, files: &mut Vec<Vec<u8>>, bytes: &[u8]) {
 
 /// Adds what was answered to the same question in another order, where it is something else.
 fn hold_against(answer: &mut Answer, again: Answer) {
-    match again.finish() {
-        Ok(again) if again.as_str() == answer.as_str() => {}
-        Ok(again) => {
-            answer.word(", but ");
-            answer.word(&again);
-            answer.word(" in another order")
-        }
-        Err(_) => answer.refuse(),
+    let Ok(again) = again.finish() else {
+        return answer.refuse();
+    };
+    if again.as_str() != answer.as_str() {
+        answer.word(", but ");
+        answer.word(&again);
+        answer.word(" in another order")
     }
 }
 

@@ -36,19 +36,24 @@ fn letters_of(reader: Reader) -> &'static [u8] {
     }
 }
 
-/// How often each answer came, by its first word, in the order of their first coming.
+/// How often an answer came, by its first word.
+#[derive(Drop)]
+struct Counted {
+    word: String,
+    count: u64,
+}
+
+/// How often each answer came, in the order of their first coming.
 #[derive(Drop)]
 struct Tally {
-    words: Vec<String>,
-    counts: Vec<u64>,
+    counted: Vec<Counted>,
     longest: usize,
 }
 
 impl Tally {
     fn new(alloc: Global) -> Tally {
         Tally {
-            words: Vec::new(alloc),
-            counts: Vec::new(alloc),
+            counted: Vec::new(alloc),
             longest: 0,
         }
     }
@@ -57,9 +62,9 @@ impl Tally {
     fn count(&mut self, answer: &mut Answer, length: usize, told: &str) {
         self.longest = self.longest.max(length);
         let (word, _) = told.split_once(' ').unwrap_or((told, ""));
-        for (known, count) in self.words.iter().zip(self.counts.iter_mut()) {
-            if known.as_str() == word {
-                *count = count.saturating_add(1);
+        for known in self.counted.iter_mut() {
+            if known.word.as_str() == word {
+                known.count = known.count.saturating_add(1);
                 return;
             }
         }
@@ -71,7 +76,7 @@ impl Tally {
         let Ok(word) = String::from_str(answer.alloc, word) else {
             return answer.refuse();
         };
-        if self.words.push(word).is_err() || self.counts.push(1).is_err() {
+        if self.counted.push(Counted { word, count: 1 }).is_err() {
             answer.refuse()
         }
     }
@@ -81,11 +86,11 @@ impl Tally {
         answer.word("at most ");
         answer.show(&self.longest);
         answer.word(" bytes");
-        for (word, count) in self.words.iter().zip(&self.counts) {
+        for known in &self.counted {
             answer.word(", ");
-            answer.word(word);
+            answer.word(&known.word);
             answer.word(" ");
-            answer.show(count);
+            answer.show(&known.count);
         }
     }
 }
