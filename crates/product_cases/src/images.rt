@@ -15,27 +15,27 @@ use std::thread::Threads;
 pub fn ask<R: Threads + Wait + Sync>(rt: &R, answer: &mut Answer, given: &str, asked: &str) {
     if let Some(files) = files_of(answer, given) {
         match asked.split_once(' ') {
-            Some(("reached", budget)) => of_budget(answer, &files, budget.parse().unwrap_or(0)),
+            Some(("reached", budget)) => add_reached(answer, &files, budget.parse().unwrap_or(0)),
             Some(("turns" | "schedule", _)) => image_runs::ask(rt, answer, &files, asked),
             _ => image_bytes::ask(rt, answer, &files, asked),
         }
     }
 }
 
-fn of_budget(answer: &mut Answer, files: &[Vec<u8>], budget: u64) {
+fn add_reached(answer: &mut Answer, files: &[Vec<u8>], budget: u64) {
     let options = BuildOptions {
         run_time: None,
         build_time: None,
         budget,
     };
     match build_here(answer.alloc, files, &options) {
-        Ok(built) => add_reached(answer, &built.image),
+        Ok(built) => add_reached_in(answer, &built.image),
         Err(_) => answer.word("no image"),
     }
 }
 
 /// The objects that are reached by class and number, how many they are, and how many were made.
-fn add_reached(answer: &mut Answer, image: &Image) {
+fn add_reached_in(answer: &mut Answer, image: &Image) {
     let Ok(found) = reachable(answer.alloc, image) else {
         return answer.refuse();
     };
