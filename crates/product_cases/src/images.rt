@@ -4,8 +4,9 @@ use crate::answer::Answer;
 use crate::class_bytes::files_of;
 use crate::members::add_class;
 use crate::{image_bytes, image_runs};
-use cli::{BuildOptions, build_here};
+use cli::{BuildFault, BuildOptions, Built, build_here};
 use object_graph::{Image, ObjectName, reachable};
+use std::alloc::Global;
 use std::sync::Wait;
 use std::thread::Threads;
 
@@ -22,14 +23,22 @@ pub fn ask<R: Threads + Wait + Sync>(rt: &R, answer: &mut Answer, given: &str, a
     }
 }
 
-fn add_reached(answer: &mut Answer, files: &[Vec<u8>], budget: u64) {
+/// The image of class files, where each initializer may cost `budget`.
+fn image_of(alloc: Global, files: &[Vec<u8>], budget: u64) -> Result<Image, BuildFault> {
     let options = BuildOptions {
         run_time: None,
         build_time: None,
         budget,
     };
-    match build_here(answer.alloc, files, &options) {
-        Ok(built) => add_reached_in(answer, &built.image),
+    match build_here(alloc, files, &options) {
+        Ok(Built { image, verdicts: _ }) => Ok(image),
+        Err(fault) => Err(fault),
+    }
+}
+
+fn add_reached(answer: &mut Answer, files: &[Vec<u8>], budget: u64) {
+    match image_of(answer.alloc, files, budget) {
+        Ok(image) => add_reached_in(answer, &image),
         Err(_) => answer.word("no image"),
     }
 }
