@@ -62,9 +62,9 @@ pub(crate) struct RunState<O: Session, S: Sink> {
     /// How many of these wake up, since one has.
     waking: u32,
     /// How often a thread has taken the lock, modulo 2^64.
-    pub(crate) entries: u64,
-    /// How many threads let another one in.
-    pub(crate) letting_in: u32,
+    entries: u64,
+    /// How many threads sleep until another one has taken it.
+    letting_in: u32,
     /// Nobody asks the gates of threads.
     open: bool,
     over: bool,
@@ -89,15 +89,23 @@ impl<O: Session, S: Sink + Drop> RunState<O, S> {
         }
     }
 
-    /// A thread has taken the lock. It answers whether one lets another in.
-    pub(crate) fn enter(&mut self) -> bool {
+    /// A thread has taken the lock. It answers how many let it in: they wake up.
+    pub(crate) fn enter(&mut self) -> u32 {
         self.entries = self.entries.wrapping_add(1);
-        self.letting_in > 0
+        let waking = self.letting_in;
+        self.letting_in = 0;
+        waking
     }
 
-    /// Whether the run goes on and the lock was taken fewer than so many times since it was taken `entries` times.
-    pub(crate) fn lacks_entries(&self, entries: u64, count: u64) -> bool {
-        !self.over && self.entries.wrapping_sub(entries) < count
+    /// A thread lets another one in. It answers how often the lock was taken.
+    pub(crate) fn begin_let_in(&mut self) -> u64 {
+        self.letting_in = self.letting_in.saturating_add(1);
+        self.entries
+    }
+
+    /// Whether nobody has taken the lock since it was taken `entries` times.
+    pub(crate) fn is_last_entry(&self, entries: u64) -> bool {
+        self.entries == entries
     }
 
     /// A thread falls asleep. It answers how many commits have moved a thread.
