@@ -52,9 +52,9 @@ impl<O: Session, S: Sink + Drop> RunLock<O, S> {
         guard: MutexGuard<'a, RunState<O, S>>,
     ) -> MutexGuard<'a, RunState<O, S>> {
         let mut guard = guard;
-        let waking = guard.enter();
+        let waking = guard.waits.enter();
         if waking > 0 {
-            self.asking.fetch_add(waking as u64, Ordering::SeqCst);
+            self.asking.fetch_add(waking, Ordering::SeqCst);
             self.entered.notify_all();
         }
         guard
@@ -67,10 +67,10 @@ impl<O: Session, S: Sink + Drop> RunLock<O, S> {
         if !self.are_asking() {
             return;
         }
-        let entries = guard.begin_let_in();
+        let entries = guard.waits.begin_let_in();
         let guard = self
             .entered
-            .wait_while(rt, guard, |state| state.is_last_entry(entries));
+            .wait_while(rt, guard, |state| state.waits.is_last_entry(entries));
         self.asking.fetch_sub(1, Ordering::SeqCst);
         let _guard = self.entered_by(guard);
     }
@@ -82,25 +82,24 @@ impl<O: Session, S: Sink + Drop> RunLock<O, S> {
         guard: MutexGuard<'a, RunState<O, S>>,
     ) -> MutexGuard<'a, RunState<O, S>> {
         let mut guard = guard;
-        let moves = guard.begin_sleep();
+        let moves = guard.waits.begin_sleep();
         let mut guard = self
             .moved
             .wait_while(rt, guard, |state| state.is_same(moves));
-        if guard.end_sleep() {
+        if guard.waits.end_sleep() {
             self.asking.fetch_sub(1, Ordering::SeqCst);
         }
         self.entered_by(guard)
     }
 
-    /// Lets go of the lock after a commit that moved a thread, and wakes those that sleep, if there are any: to wake
-    /// nobody is a call of the system, too.
+    /// Lets go of the lock after a commit that moved a thread, and wakes those that sleep, if there are any that do not
+    /// wake up already: to wake nobody is a call of the system, too.
     pub(crate) fn wake(&self, guard: MutexGuard<'_, RunState<O, S>>) {
         let mut guard = guard;
-        let wakes = guard.has_sleepers();
-        let more = guard.wake();
-        self.asking.fetch_add(more as u64, Ordering::SeqCst);
+        let more = guard.waits.wake();
+        self.asking.fetch_add(more, Ordering::SeqCst);
         drop(guard);
-        if wakes {
+        if more > 0 {
             self.moved.notify_all();
         }
     }
