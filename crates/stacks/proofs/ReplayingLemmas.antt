@@ -7,16 +7,12 @@ use Rattle.std.proofs.Math.Nat.{eq-or-lt_of_le}
 use Rattle.std.proofs.lemmas.List.{replicate-append-replicate}
 use Rattle.std.proofs.lemmas.Bool.{cases_lt}
 use Rattle.std.proofs.lemmas.Option.{slice_get_within, slice_get-get_or}
-use Rattle.vm_state.specs.Output.{Print}
 use Rattle.vm_state.specs.declared.initialization.Frames.{Frames}
 use Rattle.vm_state.proofs.ListLemmas.{tested, unequal}
 use Rattle.semantics.specs.Programs.{Program}
-use Rattle.semantics.specs.Worlds.{World, Run, step}
+use Rattle.semantics.specs.Worlds.{World, Run}
 use Rattle.semantics.proofs.RunsLemmas.{runs_join_lem}
 use Rattle.init_engine.specs.Schedules.{schedule_of}
-use Rattle.init_engine.specs.Standing.{Standing}
-use Rattle.init_engine.specs.Turnings.{RunsAhead, text_length}
-use Rattle.init_engine.specs.Turns.{world_of}
 use Rattle.thread_runner.specs.Replays.{NoRun}
 use Rattle.thread_runner.proofs.ReplayLemmas.{run_first, run_rest}
 use Rattle.stacks.specs.Stacks.{AreBefore}
@@ -44,19 +40,6 @@ pub none_after : (P : Program) (w m : World) (n k t : ℕ) → Run P w (replicat
 none_after P w m n k t first none last run =
     none last (run_rest P w m last (replicate n t) (replicate k t) first
     (subst (λ s. Run P w s last) (sym (replicate-append-replicate n k t)) run))
-
-still_by : (P : Program) (w : World) (t left bytes made : ℕ) (lines : List Print) → made ≡ 0 → 0 < left → 0 < bytes
-    → lines ≡ [] → (made ≡ left) ⊎ (bytes ≤ text_length lines) ⊎ (step P w t ≡ None) → step P w t ≡ None
-still_by P w t left bytes made lines none some room silent (inl all) = absurd (omega (arith, all, none, some))
-still_by P w t left bytes made lines none some room silent (inr (inl full)) =
-    let empty : text_length lines ≡ 0 = ap text_length silent in absurd (omega (arith, full, empty, room))
-still_by P w t left bytes made lines none some room silent (inr (inr still)) = still
-
--- a thread that could make steps and made none has none
-pub stands_still : (P : Program) (t left bytes made : ℕ) (old new : Standing) → RunsAhead P t left bytes made old new
-    → made ≡ 0 → 0 < left → 0 < bytes → step P (world_of new) t ≡ None
-stands_still P t left bytes made old new ahead none some room =
-    still_by P (world_of new) t left bytes made ahead.printed none some room (ahead.silent none) ahead.whole
 
 -- ---- rows
 

@@ -16,7 +16,7 @@ use courses::step_table::StepTable;
 use init_engine::World;
 use program::Program;
 use std::alloc::{AllocError, Global};
-use thread_runner::replay::ReplayFault;
+use thread_runner::replay::{ReplayFault, take_steps};
 use vm_state::initialization::Frames;
 
 /// Where the threads of a run stand.
@@ -59,35 +59,6 @@ fn is_last(last: &[usize], thread: u32, place: usize) -> bool
         Some(at) => *at == place,
         None => false,
     }
-}
-
-/// Makes `steps` steps of a thread. It answers whether it had them all.
-fn take_steps(
-    alloc: Global,
-    program: &Program,
-    world: &mut World,
-    table: &mut StepTable,
-    thread: u32,
-    steps: u64,
-) -> Result<bool, AllocError>
-    requires thread { thread < length world.old.threads }
-    requires steps { KeepsSteps program.now table.old }
-    ensures steps { OnOk result (KeepsSteps program.now table.new) }
-    ensures yes { IfOk result (λ went. went ≡ true → Run (program_of program.now) (world_of world.old)
-        (replicate steps thread) (world_of world.new)) }
-    ensures no { IfOk result (λ went. went ≡ false → NoRun (program_of program.now) (world_of world.old)
-        (replicate steps thread)) }
-    ensures threads { length world.new.threads ≡ length world.old.threads }
-{
-    let mut left = steps;
-    'ahead: while left > 0 {
-        let made = world.run_alone(alloc, program, table, thread, left, u64::MAX)?;
-        if made == 0 {
-            return Ok(false);
-        }
-        left -= made;
-    }
-    Ok(true)
 }
 
 /// Makes `steps` steps of a thread, and answers its frames before the last of them, if it had them all.

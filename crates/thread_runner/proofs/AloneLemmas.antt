@@ -1,6 +1,5 @@
 -- A thread goes on alone in the world of a history.
-use Rattle.std.proofs.Common.{◌≡◌, ℕ, ◌+◌, ◌-◌, ◌<◌, ◌≤◌, ◌++◌, List, refl, sym, ap, subst, ◌∙◌, arith, length}
-use Rattle.std.proofs.Common.{replicate}
+use Rattle.std.proofs.Common.{◌≡◌, ℕ, ◌+◌, ◌<◌, ◌++◌, List, refl, ap, ◌∙◌, arith, length, replicate}
 use Rattle.vm_state.specs.Output.{Print}
 use Rattle.semantics.specs.Worlds.{World}
 use Rattle.program.specs.Tables.{Tables}
@@ -59,10 +58,3 @@ pages_go_on old new i n place on = record {
   threads = on.threads;
   limit = on.limit;
 }
-
--- how many steps may still be made
-pub room_on : (old new now : Past) (t made most : ℕ) → RunsOn t old new made → now ≡ new → made ≤ most
-    → steps_of old + most < old.limit + 1024 → steps_of now + (most - made) < now.limit + 1024
-room_on old new now t made most on same few room =
-    subst (λ (h : Past). steps_of h + (most - made) < h.limit + 1024) (sym same)
-    (omega (arith, on.limit, longer old.journal new.journal made t on.journal, few, room))

@@ -1,13 +1,7 @@
 //! The answer of a run of threads.
 
-ghost use Rattle.std.specs.Prelude.{◌≡◌, IfOk};
-ghost use Rattle.semantics.specs.Worlds.{seen};
-ghost use Rattle.init_engine.specs.Observations.{IsObservation};
-ghost use Rattle.init_engine.specs.Turns.{world_of};
-
-use init_engine::{Seen, World};
+use init_engine::Seen;
 use journal::Journal;
-use std::alloc::{AllocError, Global};
 
 /// A journal, and what is seen of the world that it leads to.
 #[derive(Drop)]
@@ -28,15 +22,4 @@ pub enum RunFault {
     Limit(Ended),
     /// No thread has a step, and one has not ended.
     Stuck(Ended),
-}
-
-/// A journal, and what is seen of a world.
-pub(crate) fn end_with(alloc: Global, world: World, journal: Journal) -> Result<Ended, AllocError>
-    ensures journal { IfOk result (λ e. e.journal ≡ journal) }
-    ensures seen { IfOk result (λ e. IsObservation e.seen (seen (world_of world))) }
-{
-    match world.into_seen(alloc) {
-        Ok(seen) => Ok(Ended { journal, seen }),
-        Err(error) => Err(error),
-    }
 }

@@ -13,7 +13,7 @@ ghost use Rattle.thread_runner.specs.Answers.{IsAnswer, IsFault};
 ghost use Rattle.thread_runner.specs.Kept.{printed_text, steps_of};
 ghost use Rattle.thread_runner.specs.steps.Verdicts.{IsVerdict};
 
-use crate::answer::{Ended, RunFault, end_with};
+use crate::answer::{Ended, RunFault};
 use crate::book::Book;
 use crate::origin::Origin;
 use init_engine::Rest;
@@ -200,7 +200,11 @@ fn end_of<O: Origin>(alloc: Global, book: Book<O>) -> Result<Ended, AllocError>
     ensures seen { IfOk result (λ e. IsObservation e.seen (seen (world_of book.past.world))) }
 {
     let (world, runs) = book.into_parts();
-    end_with(alloc, world, Journal::of(runs))
+    let journal = Journal::of(runs);
+    match world.into_seen(alloc) {
+        Ok(seen) => Ok(Ended { journal, seen }),
+        Err(error) => Err(error),
+    }
 }
 
 /// The answer of a run by its book alone, where it is over and its world stands so.

@@ -1,29 +1,22 @@
 //! The last thread of a run: once all others have ended it goes on alone, on the caller's thread.
 
-ghost use Rattle.std.specs.Prelude.{◌≡◌, ◌+◌, ◌-◌, ◌<◌, ◌≤◌, ◌^◌, ◌++◌, false, length, replicate};
-ghost use Rattle.std.specs.Prelude.{IfErr, IfOk, IfSome, OnOk};
+ghost use Rattle.std.specs.Prelude.{◌≡◌, ◌+◌, ◌<◌, ◌^◌, ◌++◌, IfErr, IfOk, IfSome, OnOk, length, replicate};
 ghost use Rattle.machine.specs.Linked.{program_of};
 ghost use Rattle.courses.specs.steps.StepTables.{KeepsSteps};
 ghost use Rattle.init_engine.specs.Schedules.{schedule_of, AreRuns};
 ghost use Rattle.init_engine.specs.Turnings.{RunsAhead};
 ghost use Rattle.thread_runner.specs.Answers.{HavePrintsGoneOut};
-ghost use Rattle.thread_runner.specs.Kept.{steps_of};
 
 use crate::desk::{Desk, Session};
 use crate::history::add_some;
+use crate::tools::Tools;
 use courses::step_table::StepTable;
 use init_engine::World;
 use program::Program;
 use sinks::Sink;
 use std::alloc::{AllocError, Global};
 
-/// How many steps are made at most before what was printed goes out.
-const STEPS: u64 = 50_000;
-
-/// After how many bytes of text these go out.
-const BYTES: u64 = 65_536;
-
-/// How far a thread that goes on alone may go before what it printed goes out.
+/// How far a thread goes on in the world itself before what it printed goes out.
 #[derive(Clone, Copy)]
 pub(crate) struct Slice {
     /// As long as there were fewer steps.
@@ -99,7 +92,7 @@ impl<O: Session, S: Sink> Desk<O, S> {
         requires { program.now ≡ O.program }
         ensures { IfErr result (λ s. HavePrintsGoneOut O.program O.start O.before (S.got s)) }
     {
-        if self.failed || !may {
+        if !may {
             return Ok(self);
         }
         match last_going(self.book.world()) {
@@ -115,63 +108,21 @@ impl<O: Session, S: Sink> Desk<O, S> {
     fn run_last(self, alloc: Global, program: &Program, thread: u32) -> Result<Desk<O, S>, S>
         requires program { program.now ≡ O.program }
         requires thread { thread < length O.start.threads }
-        requires failed { self.failed ≡ false }
         ensures { IfErr result (λ s. HavePrintsGoneOut O.program O.start O.before (S.got s)) }
     {
         let mut desk = self;
-        let mut table = StepTable::new(alloc);
-        let mut left = desk.book.room();
-        'slices: while left > 0 && !desk.failed {
-            match desk.run_slice(alloc, program, &mut table, thread, left) {
+        let mut tools = Tools::<O>::new(alloc);
+        for _ in 0..u64::MAX {
+            match tools.run_slice(alloc, program, desk, thread, u64::MAX) {
                 Ok((next, made)) => {
                     desk = next;
                     if made == 0 {
                         return Ok(desk);
                     }
-                    left -= made;
                 }
                 Err(sink) => return Err(sink),
             }
         }
         Ok(desk)
-    }
-
-    /// A slice of at most `most` steps of a thread that goes on alone, and what they printed into the sink. It answers
-    /// how many there were.
-    ///
-    /// # Errors
-    /// The sink, where memory is refused.
-    pub(crate) fn run_slice(
-        self,
-        alloc: Global,
-        program: &Program,
-        table: &mut StepTable,
-        thread: u32,
-        most: u64,
-    ) -> Result<(Desk<O, S>, u64), S>
-        requires program { program.now ≡ O.program }
-        requires thread { thread < length O.start.threads }
-        requires failed { self.failed ≡ false }
-        requires keeps { KeepsSteps program.now table.old }
-        requires room { steps_of self.book.past + most < self.book.past.limit + 1024 }
-        ensures keeps { OnOk result (KeepsSteps program.now table.new) }
-        ensures most { IfOk result (λ r. r.1 ≤ most) }
-        ensures room { IfOk result (λ r. steps_of r.0.book.past + (most - r.1) < r.0.book.past.limit + 1024) }
-        ensures memory { IfErr result (λ s. HavePrintsGoneOut O.program O.start O.before (S.got s)) }
-    {
-        let _world = self.book.world();
-        let Desk { book, sink, failed } = self;
-        let slice = Slice {
-            steps: most.min(STEPS),
-            bytes: BYTES,
-        };
-        match book.run_on(alloc, program, table, thread, slice) {
-            Ok((book, made)) => {
-                let mut desk = Desk { book, sink, failed };
-                let _sent = desk.send();
-                Ok((desk, made))
-            }
-            Err(_) => Err(sink),
-        }
     }
 }

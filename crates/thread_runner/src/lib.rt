@@ -28,6 +28,7 @@ mod sending;
 pub mod stretch;
 mod tools;
 mod top;
+mod waits;
 mod worker;
 
 pub use answer::{Ended, RunFault};

@@ -17,7 +17,7 @@ const MOST_COMMITS: u32 = 64;
 const LOCALS: u16 = 16;
 
 /// What a thread keeps from commit to commit. If its local variables stand as they did at one of its last commits, it
-/// may wait in a loop for what another one does: then it goes less far and lets others in soon, and less so as long as
+/// may wait in a loop for what another one does: then it goes less far and lets another in soon, and less so as long as
 /// they stand.
 #[derive(Drop)]
 pub(crate) struct Pace {
@@ -86,7 +86,7 @@ impl Pace {
         }
     }
 
-    /// Whether the thread lets others in after a commit, where they ask for the lock or not.
+    /// Whether the thread lets another one in after a commit, where others ask for the lock or not.
     pub(crate) fn is_over(&mut self, are_asking: bool) -> bool {
         if !are_asking {
             self.commits = 0;

@@ -35,7 +35,7 @@ impl From<AllocError> for ReplayFault {
 ///
 /// # Errors
 /// `AllocError` where memory is refused; the thread may have lost its frames then.
-fn take_steps(
+pub fn take_steps(
     alloc: Global,
     program: &Program,
     world: &mut World,
@@ -50,6 +50,7 @@ fn take_steps(
         (replicate steps thread) (world_of world.new)) }
     ensures no { IfOk result (λ went. went ≡ false → NoRun (program_of program.now) (world_of world.old)
         (replicate steps thread)) }
+    ensures threads { length world.new.threads ≡ length world.old.threads }
 {
     let mut left = steps;
     'slices: while left > 0 {

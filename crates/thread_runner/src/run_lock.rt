@@ -10,15 +10,15 @@ use std::sync::atomic::{AtomicU64, Ordering};
 use std::sync::{Condvar, Mutex, MutexGuard, Wait};
 
 /// The state of a run under its lock. Whoever takes the lock says before that it asks for it, and wakes those who let
-/// others in.
+/// another one in.
 #[derive(Drop)]
 pub(crate) struct RunLock<O: Session, S: Sink> {
     state: Mutex<RunState<O, S>>,
     /// Where threads sleep until another one has moved.
     moved: Condvar,
-    /// Where those sleep who let another one in.
+    /// Where those sleep who let another one in, until it has the lock.
     entered: Condvar,
-    /// How many threads ask for the lock, or wake up and will.
+    /// How many threads ask for the lock, or wake up and will. Under the lock each of them is one that will have it.
     asking: AtomicU64,
 }
 
@@ -33,14 +33,9 @@ impl<O: Session, S: Sink + Drop> RunLock<O, S> {
         }
     }
 
-    /// How many threads ask for the lock, or wake up and will. None of them lets others in.
-    fn asking(&self) -> u64 {
-        self.asking.load(Ordering::SeqCst)
-    }
-
     /// Whether others ask for the lock.
     pub(crate) fn are_asking(&self) -> bool {
-        self.asking() > 0
+        self.asking.load(Ordering::SeqCst) > 0
     }
 
     /// Takes the lock.
@@ -51,32 +46,32 @@ impl<O: Session, S: Sink + Drop> RunLock<O, S> {
         self.entered_by(guard)
     }
 
-    /// Notes that a thread has the lock now.
+    /// Notes that a thread has the lock now, and wakes those that let it in.
     fn entered_by<'a>(
         &self,
         guard: MutexGuard<'a, RunState<O, S>>,
     ) -> MutexGuard<'a, RunState<O, S>> {
         let mut guard = guard;
-        if guard.enter() {
+        let waking = guard.waits.enter();
+        if waking > 0 {
+            self.asking.fetch_add(waking, Ordering::SeqCst);
             self.entered.notify_all();
         }
         guard
     }
 
-    /// Lets all others in that ask for the lock, while the run goes on. It ends, since each of them will have the lock,
-    /// and wakes this one then. To let in one alone would leave the lock to two threads that wait in loops.
+    /// Lets one thread in, if others ask for the lock, and sleeps until it has it. It has it, since whoever asks will,
+    /// and counts this one as asking then.
     pub(crate) fn let_in<R: Wait>(&self, rt: &R) {
         let mut guard = self.enter(rt);
-        let count = self.asking();
-        if count == 0 {
+        if !self.are_asking() {
             return;
         }
-        let entries = guard.entries;
-        guard.letting_in = guard.letting_in.saturating_add(1);
-        let mut guard = self
+        let entries = guard.waits.begin_let_in();
+        let guard = self
             .entered
-            .wait_while(rt, guard, |state| state.lacks_entries(entries, count));
-        guard.letting_in = guard.letting_in.saturating_sub(1);
+            .wait_while(rt, guard, |state| state.waits.is_last_entry(entries));
+        self.asking.fetch_sub(1, Ordering::SeqCst);
         let _guard = self.entered_by(guard);
     }
 
@@ -87,25 +82,24 @@ impl<O: Session, S: Sink + Drop> RunLock<O, S> {
         guard: MutexGuard<'a, RunState<O, S>>,
     ) -> MutexGuard<'a, RunState<O, S>> {
         let mut guard = guard;
-        let moves = guard.begin_sleep();
+        let moves = guard.waits.begin_sleep();
         let mut guard = self
             .moved
             .wait_while(rt, guard, |state| state.is_same(moves));
-        if guard.end_sleep() {
+        if guard.waits.end_sleep() {
             self.asking.fetch_sub(1, Ordering::SeqCst);
         }
         self.entered_by(guard)
     }
 
-    /// Lets go of the lock after a commit that moved a thread, and wakes those that sleep, if there are any: to wake
-    /// nobody is a call of the system, too.
+    /// Lets go of the lock after a commit that moved a thread, and wakes those that sleep, if there are any that do not
+    /// wake up already: to wake nobody is a call of the system, too.
     pub(crate) fn wake(&self, guard: MutexGuard<'_, RunState<O, S>>) {
         let mut guard = guard;
-        let wakes = guard.has_sleepers();
-        let more = guard.wake();
-        self.asking.fetch_add(more as u64, Ordering::SeqCst);
+        let more = guard.waits.wake();
+        self.asking.fetch_add(more, Ordering::SeqCst);
         drop(guard);
-        if wakes {
+        if more > 0 {
             self.moved.notify_all();
         }
     }

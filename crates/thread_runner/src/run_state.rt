@@ -7,6 +7,7 @@ use crate::committing::Front;
 use crate::desk::{Desk, Next, Session};
 use crate::front::{FrontRun, FrontStretch};
 use crate::tools::Tools;
+use crate::waits::Waits;
 use program::Program;
 use sinks::Sink;
 use std::alloc::{AllocError, Global};
@@ -55,16 +56,8 @@ pub(crate) struct RunState<O: Session, S: Sink> {
     desk: Option<Desk<O, S>>,
     /// Its sink then.
     lost: Option<LostSink<O, S>>,
-    /// How many commits have moved a thread, modulo 2^64.
-    moves: u64,
-    /// How many threads sleep until another one has moved.
-    sleepers: u32,
-    /// How many of these wake up, since one has.
-    waking: u32,
-    /// How often a thread has taken the lock, modulo 2^64.
-    pub(crate) entries: u64,
-    /// How many threads let another one in.
-    pub(crate) letting_in: u32,
+    /// Who waits for other threads.
+    pub(crate) waits: Waits,
     /// Nobody asks the gates of threads.
     open: bool,
     over: bool,
@@ -78,57 +71,16 @@ impl<O: Session, S: Sink + Drop> RunState<O, S> {
         RunState {
             desk: Some(desk),
             lost: None,
-            moves: 0,
-            sleepers: 0,
-            waking: 0,
-            entries: 0,
-            letting_in: 0,
+            waits: Waits::none(),
             open,
             over: false,
             memory: false,
         }
     }
 
-    /// A thread has taken the lock. It answers whether one lets another in.
-    pub(crate) fn enter(&mut self) -> bool {
-        self.entries = self.entries.wrapping_add(1);
-        self.letting_in > 0
-    }
-
-    /// Whether the run goes on and the lock was taken fewer than so many times since it was taken `entries` times.
-    pub(crate) fn lacks_entries(&self, entries: u64, count: u64) -> bool {
-        !self.over && self.entries.wrapping_sub(entries) < count
-    }
-
-    /// A thread falls asleep. It answers how many commits have moved a thread.
-    pub(crate) fn begin_sleep(&mut self) -> u64 {
-        self.sleepers = self.sleepers.saturating_add(1);
-        self.moves
-    }
-
-    /// A thread has woken up. It answers whether it is one of those that wake up since another one has moved.
-    pub(crate) fn end_sleep(&mut self) -> bool {
-        let wakes = self.waking > 0;
-        self.sleepers = self.sleepers.saturating_sub(1);
-        self.waking = self.waking.saturating_sub(1);
-        wakes
-    }
-
-    /// Those that sleep wake up. It answers how many more than did already.
-    pub(crate) fn wake(&mut self) -> u32 {
-        let more = self.sleepers.saturating_sub(self.waking);
-        self.waking = self.sleepers;
-        more
-    }
-
-    /// Whether a thread sleeps until another one has moved.
-    pub(crate) fn has_sleepers(&self) -> bool {
-        self.sleepers > 0
-    }
-
     /// Whether the run goes on and no commit has moved a thread since there were `moves` such commits.
     pub(crate) fn is_same(&self, moves: u64) -> bool {
-        !self.over && self.moves == moves
+        !self.over && self.waits.is_last_move(moves)
     }
 
     /// Ends the run.
@@ -215,7 +167,7 @@ impl<O: Session, S: Sink + Drop> RunState<O, S> {
     fn follow(&mut self, answer: Result<Next, AllocError>) -> Next {
         match answer {
             Ok(Next::Moved) => {
-                self.moves = self.moves.wrapping_add(1);
+                self.waits.move_on();
                 Next::Moved
             }
             Ok(Next::End) => {
@@ -267,11 +219,7 @@ impl<O: Session, S: Sink + Drop> RunState<O, S> {
         let RunState {
             desk,
             lost,
-            moves: _,
-            sleepers: _,
-            waking: _,
-            entries: _,
-            letting_in: _,
+            waits: _,
             open: _,
             over: _,
             memory,

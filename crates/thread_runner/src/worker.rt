@@ -34,7 +34,7 @@ pub(crate) fn work<O: Session, S: Sink + Drop, G: Gate, R: Wait>(
     let mut known = KnownClasses::none();
     let mut pace = Pace::new(gate.is_open());
     let locked = LockedState { lock, thread };
-    let mut front = locked.look(rt, alloc, program, known.is_old());
+    let mut front = lock.enter(rt).look(alloc, program, thread, known.is_old());
     for _ in rt.forever() {
         let Some(Front { frame, done }) = front else {
             lock.wake_all();
@@ -86,13 +86,6 @@ struct LockedState<'a, O: Session, S: Sink> {
 }
 
 impl<'a, O: Session, S: Sink + Drop> LockedState<'a, O, S> {
-    /// What the thread takes along from under the lock, while the run goes on.
-    fn look<R: Wait>(&self, rt: &R, alloc: Global, program: &Program, asks: bool) -> Option<Front>
-        requires { self.now.thread < length O.start.threads }
-    {
-        self.lock.enter(rt).look(alloc, program, self.thread, asks)
-    }
-
     /// Commits what a thread made, and answers whether it has moved or leaves, and what it takes along if it goes on.
     fn commit<R: Wait>(
         &self,
