@@ -88,7 +88,8 @@ superclass_tells family c d fits within plain =
 
 -- what is flagged as above is above
 pub flag_is_above : (family : Family) (c d : ℕ) (flagged : List ℕ) (b : Bool) → IsFamily family → AreParentsWithin family
-    → IsTrue b ↔ Contains flagged d → ((m : ℕ) → Contains flagged m ↔ IsAncestor family c m) → b ≡ is_above family c d
+    → IsTrue b ↔ Contains flagged d → ((m : ℕ) → Contains flagged m ↔ IsAncestor family c m)
+    → b ≡ is_above family c d
 flag_is_above family c d flagged b fits within tells are =
     let above = above_tells family c d fits within in
     same_from_decides b (is_above family c d)
