@@ -1,4 +1,4 @@
--- A history grows by the steps of a commit.
+-- The history of a book grows by the steps of a commit.
 use Rattle.std.proofs.Common.{◌≡◌, ◌≢◌, ℕ, zero, suc, ◌+◌, ◌<◌, ◌≤◌, ◌++◌, List, [], ◌∷◌, Option, Some, None, refl}
 use Rattle.std.proofs.Common.{sym, ap, subst, ◌∙◌, arith, slice_get, replicate, length, length-append}
 use Rattle.std.proofs.Common.{option_and_then, append-nil, inl, inr, Bool, Ok, Err}
@@ -24,17 +24,19 @@ use Rattle.init_engine.specs.declared.world.Turn.{Turn}
 use Rattle.init_engine.specs.declared.world.Turn.TheVariants as turns
 use Rattle.thread_runner.specs.Local.{local_steps, local_step}
 use Rattle.thread_runner.specs.Stretches.{IsLocalRun, Reach}
-use Rattle.thread_runner.specs.Kept.{Grows, IsKept, Past, steps_of}
-use Rattle.thread_runner.specs.Commits.{Fits, GoesOn, IsCommit, IsCounted, MovedTo, after, there}
+use Rattle.thread_runner.specs.Kept.{Grows, IsBook, IsKept, Pages, Past, steps_of}
+use Rattle.thread_runner.specs.Sendings.{IsPlace, sent_of}
+use Rattle.thread_runner.specs.Commits.{Fits, IsCommit, IsCounted, MovedTo, PagesGoOn, after, there}
 use Rattle.thread_runner.specs.Fronts.{FitsFront, FrontReach, IsFrontCommit, after_front, front_count}
-use Rattle.thread_runner.specs.declared.history.Commit.{Commit}
-use Rattle.thread_runner.specs.declared.history.Commit.TheVariants as commits
+use Rattle.thread_runner.specs.declared.advance.Commit.{Commit}
+use Rattle.thread_runner.specs.declared.advance.Commit.TheVariants as commits
 use Rattle.thread_runner.specs.declared.landing.Landing.{Landing}
 use Rattle.thread_runner.specs.declared.landing.Landing.TheVariants as landings
 use Rattle.thread_runner.specs.steps.Advances.{answered, counted}
 use Rattle.thread_runner.specs.steps.Landings.{MayLand, landed}
 use Rattle.init_engine.proofs.SetLemmas.{get_set, set_same}
 use Rattle.thread_runner.proofs.LocalLemmas.{set_twice, local_run, replicate-more}
+use Rattle.thread_runner.proofs.SendingLemmas.{place_grown, place_within, sent_stays}
 
 abbrev with_threads : World → List Thread → World
 with_threads w ts = record { shared = w.shared; threads = ts }
@@ -134,25 +136,36 @@ grows_by turns.Ended old new same = grows_none old new same
 abbrev pub past_of : Standing → List (ℕ × ℕ) → ℕ → Past
 past_of w j limit = record { world = w; journal = j; limit = limit }
 
-pub goes_still : (h : Past) (w : Standing) (j : List (ℕ × ℕ)) → w.printed ≡ h.world.printed
-    → length w.threads ≡ length h.world.threads → GoesOn h (past_of w j h.limit)
-goes_still h w j printed threads = record {
-  grows = grows_none h.world.printed w.printed printed;
+-- a book of this history, of whose prints so many have gone out, and so many bytes of the next
+abbrev pub pages_of : Past → ℕ → ℕ → Pages
+pages_of h i n = record { past = h; sent = sent_of h.world.printed i n; part = n }
+
+pub sent_as_before : (old new : List Print) (i n : ℕ) → Grows old new → IsPlace old i n
+    → sent_of new i n ≡ sent_of old i n
+sent_as_before old new i n (more, grown) place =
+    ap (λ (ls : List Print). sent_of ls i n) grown ∙ sent_stays old more i n place
+
+-- a place among lines of which more are printed
+place_on : (old new : List Print) (i n : ℕ) → Grows old new → IsPlace old i n → IsPlace new i n
+place_on old new i n (more, grown) place = place_grown old new more i n grown place
+
+pub pages_on : (h : Past) (w : Standing) (j : List (ℕ × ℕ)) (i n : ℕ) → IsPlace h.world.printed i n
+    → Grows h.world.printed w.printed → length w.threads ≡ length h.world.threads
+    → PagesGoOn (pages_of h i n) (pages_of (past_of w j h.limit) i n)
+pages_on h w j i n place grows threads = record {
+  sent = sent_as_before h.world.printed w.printed i n grows place;
+  part = refl;
+  within = place_within h.world.printed i n place;
+  grows = grows;
   threads = threads;
   limit = refl;
 }
 
-pub goes_none : (h : Past) (w : Standing) (j : List (ℕ × ℕ)) → world_of w ≡ world_of h.world
-    → length w.threads ≡ length h.world.threads → GoesOn h (past_of w j h.limit)
-goes_none h w j same threads = goes_still h w j (printed_same w h.world same) threads
-
-pub goes_by : (h : Past) (w : Standing) (j : List (ℕ × ℕ)) (turn : Turn) → Prints turn h.world.printed w.printed
-    → length w.threads ≡ length h.world.threads → GoesOn h (past_of w j h.limit)
-goes_by h w j turn prints threads = record {
-  grows = grows_by turn h.world.printed w.printed prints;
-  threads = threads;
-  limit = refl;
-}
+pub pages_none : (h : Past) (w : Standing) (j : List (ℕ × ℕ)) (i n : ℕ) → IsPlace h.world.printed i n
+    → world_of w ≡ world_of h.world → length w.threads ≡ length h.world.threads
+    → PagesGoOn (pages_of h i n) (pages_of (past_of w j h.limit) i n)
+pages_none h w j i n place same threads =
+    pages_on h w j i n place (grows_none h.world.printed w.printed (printed_same w h.world same)) threads
 
 -- more steps of a thread in a journal that is the same as another one
 pub schedule_grown : (old now new : List (ℕ × ℕ)) (t made n : ℕ)
@@ -168,7 +181,7 @@ longer xs ys n t is =
     omega (arith, ap length is, length-append (schedule_of xs) (replicate n t), length-replicate n t)
 
 -- what is kept, after n more steps of t
-pub keeps_more : (P : Tables) (start : World) (h : Past) (v : Standing) (j : List (ℕ × ℕ)) (n t : ℕ)
+keeps_more : (P : Tables) (start : World) (h : Past) (v : Standing) (j : List (ℕ × ℕ)) (n t : ℕ)
     → IsKept P start h → Run (program_of P) (world_of h.world) (replicate n t) (world_of v)
     → schedule_of j ≡ schedule_of h.journal ++ replicate n t → AreRuns j → steps_of h + n < h.limit + 1024
     → IsKept P start (record { world = v; journal = j; limit = h.limit })
@@ -181,12 +194,34 @@ keeps_more P start h v j n t kept runs is apart room = record {
   limit = kept.limit;
 }
 
-pub keeps : (P : Tables) (start : World) (h : Past) (v : Standing) (j : List (ℕ × ℕ)) (n t : ℕ) → IsKept P start h
+-- a book whose world and journal are the same to whoever looks
+pub books_still : (P : Tables) (start : World) (n : ℕ) (h : Past) (v : Standing) (j : List (ℕ × ℕ)) (i k : ℕ)
+    → IsBook P start n h i k → world_of v ≡ world_of h.world → j ≡ h.journal
+    → IsBook P start n (past_of v j h.limit) i k
+books_still P start n h v j i k book same runs =
+    let steps : length (schedule_of j) ≡ steps_of h = ap (λ x. length (schedule_of x)) runs in record {
+      counted = book.counted ∙ sym steps;
+      kept = record {
+        runs = subst (λ x. Run (program_of P) start (schedule_of x) (world_of v)) (sym runs)
+            (subst (λ (w : World). Run (program_of P) start (schedule_of h.journal) w) (sym same) book.kept.runs);
+        apart = subst AreRuns (sym runs) book.kept.apart;
+        room = omega (arith, book.kept.room, steps);
+        limit = book.kept.limit;
+      };
+      place = subst (λ (ps : List Print). IsPlace ps i k) (sym (printed_same v h.world same)) book.place;
+    }
+
+-- a book with n steps of t more
+pub books_more : (P : Tables) (start : World) (before after : ℕ) (h : Past) (v : Standing) (j : List (ℕ × ℕ))
+    (n t i k : ℕ) → IsBook P start before h i k → after ≡ before + n
     → Run (program_of P) (world_of h.world) (replicate n t) (world_of v)
-    → schedule_of j ≡ schedule_of h.journal ++ replicate n t → AreRuns j → steps_of h < h.limit → n ≤ 1024
-    → IsKept P start (record { world = v; journal = j; limit = h.limit })
-keeps P start h v j n t kept runs is apart below short =
-    keeps_more P start h v j n t kept runs is apart (omega (arith, below, short))
+    → schedule_of j ≡ schedule_of h.journal ++ replicate n t → AreRuns j → steps_of h + n < h.limit + 1024
+    → Grows h.world.printed v.printed → IsBook P start after (past_of v j h.limit) i k
+books_more P start before after h v j n t i k book is runs schedule apart room grows = record {
+  counted = omega (arith, is, book.counted, longer h.journal j n t schedule);
+  kept = keeps_more P start h v j n t book.kept runs schedule apart room;
+  place = place_on h.world.printed v.printed i k grows book.place;
+}
 
 -- after a turn behind n steps there were so many
 pub turn_run : (P : Tables) (w there v : World) (t n : ℕ) (turn : Turn) → Run (program_of P) w (replicate n t) there

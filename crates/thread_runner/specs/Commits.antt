@@ -12,8 +12,8 @@ use Rattle.init_engine.specs.Turns.{Goes, IsOver, world_of}
 use Rattle.thread_runner.specs.Local.{AreDone}
 use Rattle.thread_runner.specs.Stretches.{Reach}
 use Rattle.thread_runner.specs.Kept.{Grows, Pages, Past, printed_text, steps_of}
-use Rattle.thread_runner.specs.declared.history.Commit.{Commit}
-use Rattle.thread_runner.specs.declared.history.Commit.TheVariants.{Full, Stale, Moved, Waiting, Ended}
+use Rattle.thread_runner.specs.declared.advance.Commit.{Commit}
+use Rattle.thread_runner.specs.declared.advance.Commit.TheVariants.{Full, Stale, Moved, Waiting, Ended}
 
 -- the stretch begins at the frames of thread t, and its classes are initialized
 abbrev pub Fits : World → ℕ → Reach → Type 0
@@ -34,13 +34,7 @@ pub record Same (old new : Past) : Type 0 where
   pub journal : new.journal ≡ old.journal
   pub limit : new.limit ≡ old.limit
 
--- what a commit leaves: what was printed, and maybe more, as many threads, and the limit
-pub record GoesOn (old new : Past) : Type 0 where
-  pub grows : Grows old.world.printed new.world.printed
-  pub threads : length new.world.threads ≡ length old.world.threads
-  pub limit : new.limit ≡ old.limit
-
--- the same of a book, of which no more has gone out
+-- what a commit leaves: what has gone out, what was printed, and maybe more, as many threads, and the limit
 pub record PagesGoOn (old new : Pages) : Type 0 where
   pub sent : new.sent ≡ old.sent
   pub part : new.part ≡ old.part

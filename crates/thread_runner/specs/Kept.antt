@@ -7,6 +7,7 @@ use Rattle.machine.specs.Linked.{program_of}
 use Rattle.init_engine.specs.Schedules.{schedule_of, AreRuns}
 use Rattle.init_engine.specs.Standing.{Standing}
 use Rattle.init_engine.specs.Turns.{world_of}
+use Rattle.thread_runner.specs.Sendings.{IsPlace}
 
 -- ---- the history of all threads
 
@@ -27,11 +28,17 @@ pub record IsKept (P : Tables) (start : World) (h : Past) : Type 0 where
   pub room : steps_of h < h.limit + 1024
   pub limit : h.limit ≤ 2 ^ 62
 
+-- ---- a book
+
+-- its history is kept, and so many of its prints and bytes behind them have gone out
+pub record IsBook (P : Tables) (start : World) (steps : ℕ) (h : Past) (prints bytes : ℕ) : Type 0 where
+  pub counted : steps ≡ steps_of h
+  pub kept : IsKept P start h
+  pub place : IsPlace h.world.printed prints bytes
+
 -- what was printed, and more
 abbrev pub Grows : List Print → List Print → Type 0
 Grows old new = (prints : List Print) × (new ≡ old ++ prints)
-
--- ---- a book
 
 -- a book as contracts see it: its history, how many bytes of what was printed have gone out, and how many of these are
 -- behind the prints that have gone out whole

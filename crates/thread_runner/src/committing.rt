@@ -2,10 +2,10 @@
 
 ghost use Rattle.std.specs.Prelude.{◌≡◌, ◌<◌, false, length};
 
+use crate::advance::Commit;
 use crate::desk::{Desk, Next, Session};
 use crate::done_set::DoneSet;
 use crate::front::{FrontRun, FrontStretch};
-use crate::history::Commit;
 use crate::pace::sum_of;
 use program::Program;
 use sinks::Sink;

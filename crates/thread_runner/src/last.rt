@@ -7,8 +7,8 @@ ghost use Rattle.init_engine.specs.Schedules.{schedule_of, AreRuns};
 ghost use Rattle.init_engine.specs.Turnings.{RunsAhead};
 ghost use Rattle.thread_runner.specs.Answers.{HavePrintsGoneOut};
 
+use crate::advance::add_some;
 use crate::desk::{Desk, Session};
-use crate::history::add_some;
 use crate::tools::Tools;
 use courses::step_table::StepTable;
 use init_engine::World;

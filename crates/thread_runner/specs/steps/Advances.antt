@@ -2,8 +2,8 @@
 use Rattle.std.specs.Prelude.{ℕ, zero, suc, ◌+◌}
 use Rattle.init_engine.specs.declared.world.Turn.{Turn}
 use Rattle.init_engine.specs.declared.world.Turn.TheVariants as turns
-use Rattle.thread_runner.specs.declared.history.Commit.{Commit}
-use Rattle.thread_runner.specs.declared.history.Commit.TheVariants.{Moved, Waiting, Ended}
+use Rattle.thread_runner.specs.declared.advance.Commit.{Commit}
+use Rattle.thread_runner.specs.declared.advance.Commit.TheVariants.{Moved, Waiting, Ended}
 
 -- how many steps there were, with so many of a stretch before a turn
 abbrev pub counted : Turn → ℕ → ℕ

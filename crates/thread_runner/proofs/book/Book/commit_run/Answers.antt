@@ -1,18 +1,37 @@
-use Rattle.std.proofs.Common.{subst}
-use Rattle.thread_runner.specs.Commits.{PagesGoOn}
-use Rattle.thread_runner.specs.Kept.{Pages}
-use Rattle.thread_runner.proofs.AloneLemmas.{pages_go_on, pages_of, place_on}
+use Rattle.std.proofs.Common.{sym, subst, replicate, List}
+use Rattle.vm_state.specs.declared.frame.Frame.{Frame}
+use Rattle.semantics.specs.Worlds.{Run}
+use Rattle.machine.specs.Linked.{program_of}
+use Rattle.init_engine.specs.Turns.{world_of}
+use Rattle.thread_runner.specs.Commits.{Grew}
+use Rattle.thread_runner.specs.Fronts.{with_top}
+use Rattle.thread_runner.proofs.FrontLemmas.{front_led}
 use Rattle.thread_runner.proofs.book.Book.commit_run.Goals as goal
 
-pub returns-clause-goes_on : goal.returns-clause-goes_on
-returns-clause-goes_on g c =
-    let b = c.self.inside in
-    subst (λ (p : Pages). PagesGoOn p (pages_of c.commit_run.new.self b.prints b.bytes)) c.self.view_is
-    (pages_go_on b.history c.commit_run.new.self b.prints b.bytes c.self.invariant c.commit_run.ensures.goes_on)
+pub take_steps-requires-clause-front : goal.take_steps-requires-clause-front
+take_steps-requires-clause-front g c =
+    (c.args.run.from, (c.fits_front.ensures.yes c.if-not-fits_front.false).0)
 
-pub invariant_of-self : goal.invariant_of-self
-invariant_of-self g c =
-    let b = c.self.inside in
-    place_on b.history.world.printed c.commit_run.new.self.world.printed b.prints b.bytes
-    c.commit_run.ensures.goes_on.grows
-    c.self.invariant
+pub take_steps-requires-clause-led : goal.take_steps-requires-clause-led
+take_steps-requires-clause-led g c =
+    let P = g.O.Origin.program in
+    let w = world_of c.args.self.now.past.world in
+    let t = c.args.thread in
+    let s = c.args.run in
+    subst (λ (fs : List Frame). Run (program_of P) w (replicate c.count-count.result t) (with_top w t fs))
+    (sym c.into_top.ensures.is)
+    (subst (λ k. Run (program_of P) w (replicate k t) (with_top w t s.to)) (sym c.count-count.ensures.is)
+    (front_led P w t s (c.fits_front.ensures.yes c.if-not-fits_front.false) c.into_top.ensures.leads))
+
+pub returns-in-Ok-clause-answer : goal.returns-in-Ok-clause-answer
+returns-in-Ok-clause-answer g c =
+    let old = c.args.self.now.past in
+    let w = world_of old.world in
+    let t = c.args.thread in
+    let new = c.take_steps.new.self.past in (
+      c.has_room.ensures.below c.if-not-has_room.false,
+      c.fits_front.ensures.yes c.if-not-fits_front.false,
+      subst (λ k. Grew old t (with_top w t c.args.run.to) k new) c.count-count.ensures.is
+          (subst (λ (fs : List Frame). Grew old t (with_top w t fs) c.count-count.result new) c.into_top.ensures.is
+          c.in-Ok.ensures.grew),
+    )

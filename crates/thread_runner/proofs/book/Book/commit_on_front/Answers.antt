@@ -7,7 +7,7 @@ use Rattle.init_engine.specs.Turns.{world_of}
 use Rattle.thread_runner.specs.Fronts.{with_top}
 use Rattle.thread_runner.proofs.BookLemmas.{front_counts_if}
 use Rattle.thread_runner.proofs.FrontLemmas.{front_led}
-use Rattle.thread_runner.proofs.history.History.commit_on_front.Goals as goal
+use Rattle.thread_runner.proofs.book.Book.commit_on_front.Goals as goal
 
 pub count_steps-requires-clause-may : goal.count_steps-requires-clause-may
 count_steps-requires-clause-may g c =
@@ -16,7 +16,7 @@ count_steps-requires-clause-may g c =
 pub count_steps-requires-clause-led : goal.count_steps-requires-clause-led
 count_steps-requires-clause-led g c =
     let P = g.O.Origin.program in
-    let w = world_of c.args.self.now.world in
+    let w = world_of c.args.self.now.past.world in
     let t = c.args.thread in
     let s = c.args.run in
     subst (λ (fs : List Frame). Run (program_of P) w (replicate c.count-count.result t) (with_top w t fs))
@@ -26,9 +26,9 @@ count_steps-requires-clause-led g c =
 
 pub returns-clause-answer : goal.returns-clause-answer
 returns-clause-answer g c =
-    let w = world_of c.args.self.now.world in
-    front_counts_if g.O.Origin.program c.args.self.now c.args.thread (Some c.args.run) c.count_steps.result
-    c.count_steps.new.self (with_top w c.args.thread (frames_of c.into_top.result)) c.count-count.result
+    let w = world_of c.args.self.now.past.world in
+    front_counts_if g.O.Origin.program c.args.self.now.past c.args.thread (Some c.args.run) c.count_steps.result
+    c.count_steps.new.self.past (with_top w c.args.thread (frames_of c.into_top.result)) c.count-count.result
     c.count-count.ensures.is (ap (with_top w c.args.thread) c.into_top.ensures.is)
     (c.is_full.ensures.no c.if-is_full.false) (c.fits_front.ensures.yes c.if-not-fits_front.false)
     c.count_steps.ensures.answer

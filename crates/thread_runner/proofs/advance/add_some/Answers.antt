@@ -1,6 +1,6 @@
 use Rattle.std.proofs.Common.{arith}
 use Rattle.journal.proofs.RunsLemmas.{last_small}
-use Rattle.thread_runner.proofs.history.add_some.Goals as goal
+use Rattle.thread_runner.proofs.advance.add_some.Goals as goal
 
 pub unreachable-requires : goal.unreachable-requires
 unreachable-requires c =
