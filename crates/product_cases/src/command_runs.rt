@@ -83,9 +83,11 @@ pub fn done_over<R: Threads + Wait + Sync>(
 
 /// The status, and between brackets what both streams got.
 pub fn add_streams(answer: &mut Answer, status: u8, out: &[u8], errors: &[u8]) {
+    let out = from_utf8(out).unwrap_or("no text");
+    let errors = from_utf8(errors).unwrap_or("no text");
     answer.show(&status);
-    answer.bracketed(from_utf8(out).unwrap_or("no text"));
-    answer.bracketed(from_utf8(errors).unwrap_or("no text"))
+    answer.bracketed(out);
+    answer.bracketed(errors)
 }
 
 /// The status, and between brackets what the file of a name holds.
