@@ -1,6 +1,5 @@
 //! Runs of commands, over files and streams in memory.
 
-use crate::answer::Answer;
 use crate::shelf::Shelf;
 use crate::streams::Narrow;
 use cli::command;
@@ -13,9 +12,7 @@ use std::thread::Threads;
 pub fn words_of<'a>(alloc: Global, text: &'a str) -> Result<Vec<&'a str>, AllocError> {
     let mut words = Vec::new(alloc);
     for word in text.split_whitespace() {
-        let Ok(()) = words.push(word.trim_matches('\'')) else {
-            return Err(AllocError);
-        };
+        words.push(word.trim_matches('\''))?;
     }
     Ok(words)
 }
@@ -49,9 +46,7 @@ pub fn done<R: Threads + Wait + Sync>(
     text: &str,
     rooms: Rooms,
 ) -> Result<CommandAnswer, AllocError> {
-    let Ok(words) = words_of(alloc, text) else {
-        return Err(AllocError);
-    };
+    let words = words_of(alloc, text)?;
     let out = Narrow::new(alloc, rooms.out);
     let mut errors = Narrow::new(alloc, rooms.errors);
     let (status, out) = command(rt, alloc, &words, shelf, out, &mut errors);
@@ -62,67 +57,64 @@ pub fn done<R: Threads + Wait + Sync>(
     })
 }
 
-/// Does a command over class files: these words, which the names of the files follow.
-pub fn done_over<R: Threads + Wait + Sync>(
-    rt: &R,
-    alloc: Global,
-    shelf: &mut Shelf,
-    command: &str,
-    files: &[Vec<u8>],
-) -> Result<CommandAnswer, AllocError> {
-    let mut words = Answer::new(alloc);
-    words.word(command);
-    for file in files {
-        shelf.add_file(&mut words, file);
-    }
-    match words.finish() {
-        Ok(words) => done(rt, alloc, shelf, &words, ROOMY),
-        Err(error) => Err(error),
-    }
-}
-
 /// The status, and between brackets what both streams got.
-pub fn add_streams(answer: &mut Answer, status: u8, out: &[u8], errors: &[u8]) {
+pub fn answer_text(
+    alloc: Global,
+    status: u8,
+    out: &[u8],
+    errors: &[u8],
+) -> Result<String, AllocError> {
     let out = from_utf8(out).unwrap_or("no text");
     let errors = from_utf8(errors).unwrap_or("no text");
-    answer.show(&status);
-    answer.bracketed(out);
-    answer.bracketed(errors)
+    format!(in alloc; "{status} [{out}] [{errors}]")
 }
 
 /// The status, and between brackets what the file of a name holds.
-pub fn add_file(answer: &mut Answer, status: u8, shelf: &Shelf, name: &str) {
-    answer.show(&status);
+pub fn file_text(
+    alloc: Global,
+    status: u8,
+    shelf: &Shelf,
+    name: &str,
+) -> Result<String, AllocError> {
     match shelf.find(name) {
-        Some(bytes) => answer.bracketed(from_utf8(bytes).unwrap_or("no text")),
-        None => answer.word(" no file"),
+        Some(bytes) => {
+            let held = from_utf8(bytes).unwrap_or("no text");
+            format!(in alloc; "{status} [{held}]")
+        }
+        None => format!(in alloc; "{status} no file"),
     }
 }
 
 /// The status, and `same` where two files are there and hold the same bytes, or else `others`.
-pub fn add_sameness(answer: &mut Answer, status: u8, shelf: &Shelf, name: &str, other: &str) {
-    answer.show(&status);
-    match (shelf.find(name), shelf.find(other)) {
-        (Some(one), Some(another)) if one == another => answer.word(" same"),
-        _ => answer.word(" others"),
-    }
+pub fn same_text(
+    alloc: Global,
+    status: u8,
+    shelf: &Shelf,
+    name: &str,
+    other: &str,
+) -> Result<String, AllocError> {
+    let found = match (shelf.find(name), shelf.find(other)) {
+        (Some(one), Some(another)) if one == another => "same",
+        _ => "others",
+    };
+    format!(in alloc; "{status} {found}")
 }
 
 /// What went to standard output, or, where that is nothing, to standard error.
-pub fn add_output(answer: &mut Answer, done: &CommandAnswer) {
+pub fn output_text(alloc: Global, done: &CommandAnswer) -> Result<String, AllocError> {
     let shown = if done.out.is_empty() {
         &done.errors
     } else {
         &done.out
     };
-    answer.word(from_utf8(shown).unwrap_or("no text"))
+    String::from_str(alloc, from_utf8(shown).unwrap_or("no text"))
 }
 
 /// The status, and which of the two streams got a text where the other got nothing.
-pub fn add_stream(answer: &mut Answer, done: &CommandAnswer, text: &str) {
-    answer.show(&done.status);
-    answer.word(" ");
-    answer.word(stream_with(&done.out, &done.errors, text))
+pub fn stream_text(alloc: Global, done: &CommandAnswer, text: &str) -> Result<String, AllocError> {
+    let status = done.status;
+    let stream = stream_with(&done.out, &done.errors, text);
+    format!(in alloc; "{status} {stream}")
 }
 
 fn stream_with(out: &[u8], errors: &[u8], text: &str) -> &'static str {

@@ -1,12 +1,11 @@
 //! The bytes of an image that is built of classes, and what reading them answers, whole, cut and changed.
 
-use crate::answer::Answer;
-use crate::class_bytes::{number, part_of};
-use crate::command_runs::done_over;
+use crate::class_bytes::{hexadecimal, number};
+use crate::command_runs::{ROOMY, done};
 use crate::image_sinks::failing;
-use crate::programs;
 use crate::shelf::{Shelf, add_digest};
 use image_reader::read;
+use std::alloc::{AllocError, Global};
 use std::sync::Wait;
 use std::thread::Threads;
 
@@ -15,37 +14,29 @@ const HEADER: usize = 10;
 
 const DIGEST: usize = 32;
 
-/// How an image is built.
-const BUILD: &str = "build --out image";
-
-/// The image of class files; no bytes where it is refused.
-pub fn built<R: Threads + Wait + Sync>(rt: &R, answer: &mut Answer, files: &[Vec<u8>]) -> Vec<u8> {
-    built_by(rt, answer, BUILD, files)
+/// The image of class files, by the command `build`; no bytes where it is refused.
+pub fn built<R: Threads + Wait + Sync>(
+    rt: &R,
+    alloc: Global,
+    files: &[Vec<u8>],
+) -> Result<Vec<u8>, AllocError> {
+    built_by(rt, alloc, "build --out image", files)
 }
 
 /// The image of class files, by these words, which the names of the files follow.
 fn built_by<R: Threads + Wait + Sync>(
     rt: &R,
-    answer: &mut Answer,
+    alloc: Global,
     command: &str,
     files: &[Vec<u8>],
-) -> Vec<u8> {
-    let mut shelf = Shelf::new(answer.alloc);
-    if done_over(rt, answer.alloc, &mut shelf, command, files).is_err() {
-        answer.refuse()
+) -> Result<Vec<u8>, AllocError> {
+    let mut shelf = Shelf::new(alloc);
+    let mut words = String::from_str(alloc, command)?;
+    for file in files {
+        shelf.add_file(&mut words, file)?;
     }
-    answer.copied(shelf.find("image").unwrap_or(&[]))
-}
-
-/// Whether a build by these words gives these bytes.
-fn is_built<R: Threads + Wait + Sync>(
-    rt: &R,
-    answer: &mut Answer,
-    command: &str,
-    files: &[Vec<u8>],
-    bytes: &[u8],
-) -> bool {
-    built_by(rt, answer, command, files).as_slice() == bytes
+    let _done = done(rt, alloc, &mut shelf, &words, ROOMY)?;
+    Vec::from_slice(alloc, shelf.find("image").unwrap_or(&[]))
 }
 
 /// Asked are of the image:
@@ -60,30 +51,34 @@ fn is_built<R: Threads + Wait + Sync>(
 ///   many went out, of how many each.
 /// - `swapped PLACE PLACE` and `then BYTE`, what reading it answers with two class files in each other's place, or with
 ///   a byte more before the digest. The digest is made anew.
-pub fn ask<R: Threads + Wait + Sync>(rt: &R, answer: &mut Answer, files: &[Vec<u8>], asked: &str) {
-    let bytes = built(rt, answer, files);
+pub fn answer<R: Threads + Wait + Sync>(
+    rt: &R,
+    alloc: Global,
+    files: &[Vec<u8>],
+    asked: &str,
+) -> Result<String, AllocError> {
+    let bytes = built(rt, alloc, files)?;
     let (word, about) = asked.split_once(' ').unwrap_or((asked, ""));
     match word {
-        "orders" => compare_orders(rt, answer, files, &bytes),
-        "workers" => compare_workers(rt, answer, files, &bytes),
-        _ => of_image(answer, files, &bytes, word, about),
+        "length" => bytes.len().to_string(alloc),
+        "bytes" => part(alloc, &bytes, about),
+        "regions" => hexadecimal(alloc, after_files(files, &bytes)),
+        "orders" => orders(rt, alloc, files, &bytes),
+        "workers" => workers(rt, alloc, files, &bytes),
+        "whole" => reading(alloc, &bytes),
+        "cuts" => cuts(alloc, &bytes),
+        "changes" => changes(alloc, &bytes),
+        "swapped" => swapped(alloc, files, &bytes, about),
+        "then" => longer(alloc, &bytes, about),
+        "failing" => failing(alloc, &bytes),
+        _ => String::from_str(alloc, "no question"),
     }
 }
 
-fn of_image(answer: &mut Answer, files: &[Vec<u8>], bytes: &[u8], word: &str, about: &str) {
-    let (first, second) = about.split_once(' ').unwrap_or((about, ""));
-    match word {
-        "length" => answer.show(&bytes.len()),
-        "bytes" => answer.hexadecimal(part_of(bytes, first, second)),
-        "regions" => answer.hexadecimal(after_files(files, bytes)),
-        "whole" => add_reading(answer, bytes),
-        "cuts" => add_cuts(answer, bytes),
-        "changes" => add_changes(answer, bytes),
-        "swapped" => add_swapped(answer, files, bytes, number(first), number(second)),
-        "then" => add_longer(answer, bytes, number(about)),
-        "failing" => answer.made(failing(answer.alloc, bytes)),
-        _ => answer.word("no question"),
-    }
+fn part(alloc: Global, bytes: &[u8], about: &str) -> Result<String, AllocError> {
+    let (offset, length) = about.split_once(' ').unwrap_or((about, ""));
+    let rest = bytes.get(number(offset)..).unwrap_or(&[]);
+    hexadecimal(alloc, rest.get(..number(length)).unwrap_or(rest))
 }
 
 /// What stands before the digest.
@@ -103,98 +98,106 @@ fn after_files<'a>(files: &[Vec<u8>], bytes: &'a [u8]) -> &'a [u8] {
 }
 
 /// The files in the opposite order.
-fn reversed(answer: &mut Answer, files: &[Vec<u8>]) -> Vec<Vec<u8>> {
-    let mut others = Vec::new(answer.alloc);
+fn reversed(alloc: Global, files: &[Vec<u8>]) -> Result<Vec<Vec<u8>>, AllocError> {
+    let mut others = Vec::new(alloc);
     for file in files.iter().rev() {
-        programs::add_file(answer, &mut others, file);
+        others.push(file.clone()?)?;
     }
-    others
+    Ok(others)
 }
 
 /// `same` where 1, 2 and 64 workers give these bytes, in both orders of the files, or else the words that do not.
-fn compare_workers<R: Threads + Wait + Sync>(
+fn workers<R: Threads + Wait + Sync>(
     rt: &R,
-    answer: &mut Answer,
+    alloc: Global,
     files: &[Vec<u8>],
     bytes: &[u8],
-) {
-    let others = reversed(answer, files);
-    for command in [
-        "build --workers 1 --out image",
-        "build --workers 2 --out image",
-        "build --workers 64 --out image",
-    ] {
-        if !is_built(rt, answer, command, files, bytes)
-            || !is_built(rt, answer, command, &others, bytes)
-        {
-            return answer.word(command);
+) -> Result<String, AllocError> {
+    let others = reversed(alloc, files)?;
+    for workers in ["1", "2", "64"] {
+        let words = format!(in alloc; "build --workers {workers} --out image")?;
+        let one = built_by(rt, alloc, &words, files)?;
+        let other = built_by(rt, alloc, &words, &others)?;
+        if one.as_slice() != bytes || other.as_slice() != bytes {
+            return Ok(words);
         }
     }
-    answer.word("same")
+    String::from_str(alloc, "same")
 }
 
-fn compare_orders<R: Threads + Wait + Sync>(
+fn orders<R: Threads + Wait + Sync>(
     rt: &R,
-    answer: &mut Answer,
+    alloc: Global,
     files: &[Vec<u8>],
     bytes: &[u8],
-) {
-    let others = reversed(answer, files);
-    if is_built(rt, answer, BUILD, &others, bytes) {
-        answer.word("same")
+) -> Result<String, AllocError> {
+    let others = reversed(alloc, files)?;
+    let again = built(rt, alloc, &others)?;
+    let text = if again.as_slice() == bytes {
+        "same"
     } else {
-        answer.word("others")
-    }
+        "others"
+    };
+    String::from_str(alloc, text)
 }
 
 /// What reading an image answers: `read`, or a fault.
-fn add_reading(answer: &mut Answer, bytes: &[u8]) {
-    match read(answer.alloc, bytes) {
-        Ok(_) => answer.word("read"),
-        Err(fault) => answer.debug(&fault),
+fn reading(alloc: Global, bytes: &[u8]) -> Result<String, AllocError> {
+    match read(alloc, bytes) {
+        Ok(_) => String::from_str(alloc, "read"),
+        Err(fault) => format!(in alloc; "{fault:?}"),
     }
 }
 
-/// Adds what reading an image answers after its number, unless it is the last answer again.
-fn add_numbered(answer: &mut Answer, last: &mut String, number: usize, bytes: &[u8]) {
-    let mut reading = Answer::new(answer.alloc);
-    add_reading(&mut reading, bytes);
-    match reading.finish() {
-        Ok(text) => add_change(answer, last, number, text),
-        Err(_) => answer.refuse(),
+/// Answers in the order of their numbers, each with the first of the numbers in a row that have it.
+#[derive(Drop)]
+struct Answers {
+    alloc: Global,
+    text: String,
+    last: String,
+}
+
+impl Answers {
+    fn new(alloc: Global) -> Answers {
+        Answers {
+            alloc,
+            text: String::new(alloc),
+            last: String::new(alloc),
+        }
+    }
+
+    fn add(&mut self, number: usize, answer: String) -> Result<(), AllocError> {
+        if answer.as_str() == self.last.as_str() {
+            return Ok(());
+        }
+        if !self.text.is_empty() {
+            self.text.push_str(", ")?;
+        }
+        let told = format!(in self.alloc; "{number} {answer}")?;
+        self.text.push_str(&told)?;
+        self.last = answer;
+        Ok(())
     }
 }
 
-fn add_change(answer: &mut Answer, last: &mut String, number: usize, text: String) {
-    if text.as_str() != last.as_str() {
-        answer.separate(", ");
-        answer.show(&number);
-        answer.word(" ");
-        answer.word(&text);
-        *last = text
-    }
-}
-
-fn add_cuts(answer: &mut Answer, bytes: &[u8]) {
-    let mut last = String::new(answer.alloc);
+fn cuts(alloc: Global, bytes: &[u8]) -> Result<String, AllocError> {
+    let mut answers = Answers::new(alloc);
     for length in 0..bytes.len() {
-        add_numbered(
-            answer,
-            &mut last,
-            length,
-            bytes.get(..length).unwrap_or(&[]),
-        );
+        let first = bytes.get(..length).unwrap_or(&[]);
+        answers.add(length, reading(alloc, first)?)?;
     }
+    Ok(answers.text)
 }
 
-fn add_changes(answer: &mut Answer, bytes: &[u8]) {
-    let mut last = String::new(answer.alloc);
-    let mut changed = answer.copied(bytes);
+fn changes(alloc: Global, bytes: &[u8]) -> Result<String, AllocError> {
+    let mut answers = Answers::new(alloc);
+    let mut changed = Vec::from_slice(alloc, bytes)?;
     for (offset, byte) in bytes.iter().enumerate() {
         put(&mut changed, offset, byte ^ 0xFF);
-        add_numbered(answer, &mut last, offset, &changed);
+        answers.add(offset, reading(alloc, &changed)?)?;
         put(&mut changed, offset, *byte);
     }
+    Ok(answers.text)
 }
 
 fn put(bytes: &mut [u8], offset: usize, byte: u8) {
@@ -204,8 +207,16 @@ fn put(bytes: &mut [u8], offset: usize, byte: u8) {
 }
 
 /// With two class files in each other's place.
-fn add_swapped(answer: &mut Answer, files: &[Vec<u8>], bytes: &[u8], first: usize, second: usize) {
-    let mut other = answer.copied(bytes.get(..HEADER).unwrap_or(&[]));
+fn swapped(
+    alloc: Global,
+    files: &[Vec<u8>],
+    bytes: &[u8],
+    about: &str,
+) -> Result<String, AllocError> {
+    let (first, second) = about.split_once(' ').unwrap_or((about, ""));
+    let first = number(first);
+    let second = number(second);
+    let mut other = Vec::from_slice(alloc, bytes.get(..HEADER).unwrap_or(&[]))?;
     for place in 0..files.len() {
         let taken = if place == first {
             second
@@ -215,31 +226,26 @@ fn add_swapped(answer: &mut Answer, files: &[Vec<u8>], bytes: &[u8], first: usiz
             place
         };
         add_file(
-            answer,
             &mut other,
             files.get(taken).map_or(&[], |file| file.as_slice()),
-        );
+        )?;
     }
-    answer.note(other.extend_from_slice(after_files(files, bytes)));
-    add_digested(answer, other)
+    other.extend_from_slice(after_files(files, bytes))?;
+    add_digest(&mut other)?;
+    reading(alloc, &other)
 }
 
 /// Adds a class file after its length.
-fn add_file(answer: &mut Answer, bytes: &mut Vec<u8>, file: &[u8]) {
+fn add_file(bytes: &mut Vec<u8>, file: &[u8]) -> Result<(), AllocError> {
     let length = u32::try_from(file.len()).unwrap_or(u32::MAX);
-    answer.note(bytes.extend_from_slice(&length.to_be_bytes()));
-    answer.note(bytes.extend_from_slice(file))
+    bytes.extend_from_slice(&length.to_be_bytes())?;
+    bytes.extend_from_slice(file)
 }
 
 /// With a byte more before the digest.
-fn add_longer(answer: &mut Answer, bytes: &[u8], byte: usize) {
-    let mut other = answer.copied(body(bytes));
-    answer.note(other.extend_from_slice(&[u8::try_from(byte).unwrap_or(0)]));
-    add_digested(answer, other)
-}
-
-/// What reading bytes with their digest answers.
-fn add_digested(answer: &mut Answer, mut bytes: Vec<u8>) {
-    answer.note(add_digest(&mut bytes));
-    add_reading(answer, &bytes)
+fn longer(alloc: Global, bytes: &[u8], about: &str) -> Result<String, AllocError> {
+    let mut other = Vec::from_slice(alloc, body(bytes))?;
+    other.push(u8::try_from(number(about)).unwrap_or(0))?;
+    add_digest(&mut other)?;
+    reading(alloc, &other)
 }

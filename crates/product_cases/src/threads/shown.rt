@@ -1,6 +1,5 @@
 //! What runs of threads show.
 
-use crate::answer::Answer;
 use init_engine::Ending;
 use std::alloc::{AllocError, Global};
 use std::str::from_utf8;
@@ -44,15 +43,20 @@ impl RunShown {
     }
 
     /// Adds what a word asks for, after a space where it is not the first.
-    pub fn add_word(&self, answer: &mut Answer, word: &str) {
-        answer.separate(" ");
+    pub fn add_word(&self, text: &mut String, word: &str) -> Result<(), AllocError> {
+        if !text.is_empty() {
+            text.push(' ')?;
+        }
         match word {
-            "end" => answer.word(self.end),
-            "over" => answer.word(over(self.end)),
-            "got" => answer.word(text_of(&self.got)),
-            "journal" => answer.word(text_of(&self.journal)),
-            "whole" => answer.word(if self.is_whole { "whole" } else { "cut" }),
-            _ => answer.show(&self.number(word)),
+            "end" => text.push_str(self.end),
+            "over" => text.push_str(over(self.end)),
+            "got" => text.push_str(text_of(&self.got)),
+            "journal" => text.push_str(text_of(&self.journal)),
+            "whole" => text.push_str(if self.is_whole { "whole" } else { "cut" }),
+            _ => {
+                let number = self.number(word);
+                write!(text, "{number}")
+            }
         }
     }
 
