@@ -1,0 +1,14 @@
+04:52:00 - proof 0.3 cpu, 1.0 wall, jobs ?, status 0
+05:03:37 graph proof 134.5 cpu, 254.7 wall, jobs 1, status 0
+05:04:56 built_in proof 55.4 cpu, 77.5 wall, jobs 1, status 0
+05:13:14 classfile proof 509.2 cpu, 831.4 wall, jobs 1, status 0
+05:16:09 loading proof 247.6 cpu, 161.8 wall, jobs 2, status 0
+05:24:10 bytecode proof 268.2 cpu, 454.3 wall, jobs 1, status 0
+05:25:41 sinks proof 29.3 cpu, 45.3 wall, jobs 1, status 0
+05:26:41 place_set proof 35.3 cpu, 51.2 wall, jobs 1, status 0
+05:32:32 instruction_text proof 89.6 cpu, 341.6 wall, jobs 1, status 0
+05:38:05 vm_state proof 678.0 cpu, 1986.8 wall, jobs 1, status 0
+05:38:48 semantics proof 34.6 cpu, 39.8 wall, jobs 1, status 0
+05:41:20 frame_instructions proof 120.4 cpu, 150.4 wall, jobs 1, status 0
+05:54:30 command_line proof 233.7 cpu, 1307.9 wall, jobs 1, status 0
+06:10:03 cases proof 370.6 cpu, 1722.1 wall, jobs 1, status 0
