@@ -1,32 +1,43 @@
 //! The text form of class files, and the bytes that it stands for.
 
+use crate::answer::Answer;
 use cases::add_class_files;
-use std::alloc::{AllocError, Global};
 
 /// Given is a class. Asked is `length`, for that of its file, or an offset and a length, for the bytes that stand
 /// there.
-pub fn answer(alloc: Global, given: &str, asked: &str) -> Result<String, AllocError> {
-    let mut files = Vec::new(alloc);
-    let misspelled = add_class_files(alloc, &mut files, given)?;
-    if !misspelled.is_empty() {
-        return format!(in alloc; "misspelled{misspelled}");
-    }
-    match files.first() {
-        Some(file) => part_of(alloc, file, asked),
-        None => String::from_str(alloc, "no class"),
+pub fn ask(answer: &mut Answer, given: &str, asked: &str) {
+    if let Some(files) = files_of(answer, given) {
+        match files.first() {
+            Some(file) => of_file(answer, file, asked),
+            None => answer.word("no class"),
+        }
     }
 }
 
-fn part_of(alloc: Global, file: &[u8], asked: &str) -> Result<String, AllocError> {
+/// The class files of a text. Where something is misspelled that is the answer, and there are none.
+pub fn files_of(answer: &mut Answer, given: &str) -> Option<Vec<Vec<u8>>> {
+    let mut files = Vec::new(answer.alloc);
+    match add_class_files(answer.alloc, &mut files, given) {
+        Ok(misspelled) if misspelled.is_empty() => Some(files),
+        Ok(misspelled) => {
+            answer.word("misspelled");
+            answer.word(&misspelled);
+            None
+        }
+        Err(_) => {
+            answer.refuse();
+            None
+        }
+    }
+}
+
+fn of_file(answer: &mut Answer, file: &[u8], asked: &str) {
     if asked == "length" {
-        return file.len().to_string(alloc);
+        return answer.show(&file.len());
     }
     match asked.split_once(' ') {
-        Some((offset, length)) => hexadecimal(
-            alloc,
-            slice_of(file, number(offset), number(length)),
-        ),
-        None => String::from_str(alloc, "no question"),
+        Some((offset, length)) => answer.hexadecimal(part_of(file, offset, length)),
+        None => answer.word("no question"),
     }
 }
 
@@ -36,16 +47,7 @@ pub fn number(word: &str) -> usize {
 }
 
 /// A number of bytes from an offset on, or as many as there are.
-fn slice_of(bytes: &[u8], offset: usize, length: usize) -> &[u8] {
-    let rest = bytes.get(offset..).unwrap_or(&[]);
-    rest.get(..length).unwrap_or(rest)
-}
-
-/// Two hexadecimal digits a byte.
-pub fn hexadecimal(alloc: Global, bytes: &[u8]) -> Result<String, AllocError> {
-    let mut text = String::new(alloc);
-    for byte in bytes {
-        write!(text, "{byte:02X}")?;
-    }
-    Ok(text)
+pub fn part_of<'a>(bytes: &'a [u8], offset: &str, length: &str) -> &'a [u8] {
+    let rest = bytes.get(number(offset)..).unwrap_or(&[]);
+    rest.get(..number(length)).unwrap_or(rest)
 }

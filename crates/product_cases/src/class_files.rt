@@ -1,7 +1,8 @@
 //! The bytes of class files, and what reading them answers.
 
-use crate::class_bytes::hexadecimal;
-use cases::{SpelledBytes, filled, modified_utf8, spelled};
+use crate::answer::Answer;
+use crate::runs::name_of;
+use cases::{SpelledBytes, filled, spelled};
 use classfile::{ClassFile, ClassName, ModifiedUtf8, printed, read, write};
 use std::alloc::{AllocError, Global};
 
@@ -11,55 +12,72 @@ use std::alloc::{AllocError, Global};
 /// asked are `at OFFSET BYTES`, with other bytes there; `first LENGTH`, that many of its bytes; `then BYTES`, more
 /// after it; `parts`; and `entries`. Without a file `name TEXT` asks for the forms of a class's name, and `units
 /// TEXT` for those of one with any units.
-pub fn answer(alloc: Global, given: &str, asked: &str) -> Result<String, AllocError> {
+pub fn ask(answer: &mut Answer, given: &str, asked: &str) {
     if given.is_empty() {
-        return name_answer(alloc, asked);
+        return of_name(answer, asked);
     }
-    let file = file_of(alloc, given, asked)?;
-    if !file.misspelled.is_empty() {
-        return Ok(file.misspelled);
+    match file_of(answer.alloc, given, asked) {
+        Ok(file) => of_file(answer, &file, asked),
+        Err(_) => answer.refuse(),
     }
-    reading(alloc, &file.bytes, asked)
 }
 
 fn file_of(alloc: Global, given: &str, asked: &str) -> Result<SpelledBytes, AllocError> {
     if given.contains("{}") {
         let (_, parts) = asked.split_once(": ").unwrap_or(("", asked));
-        return spelled(alloc, &filled(alloc, given, parts)?);
+        return spelled_text(alloc, filled(alloc, given, parts));
     }
     match asked.split_once(' ') {
         Some(("first", length)) => cut(alloc, given, length),
-        Some(("then", more)) => longer(alloc, given, more),
+        Some(("then", more)) => spelled_text(alloc, format!(in alloc; "{given} {more}")),
         Some(("at", change)) => overwritten(alloc, given, change),
         _ => spelled(alloc, given),
     }
 }
 
-/// The first bytes of a file.
-fn cut(alloc: Global, given: &str, length: &str) -> Result<SpelledBytes, AllocError> {
-    let mut file = spelled(alloc, given)?;
-    file.bytes.truncate(length.parse().unwrap_or(usize::MAX));
-    Ok(file)
+fn spelled_text(
+    alloc: Global,
+    text: Result<String, AllocError>,
+) -> Result<SpelledBytes, AllocError> {
+    match text {
+        Ok(text) => spelled(alloc, &text),
+        Err(error) => Err(error),
+    }
 }
 
-/// A file with more bytes after it.
-fn longer(alloc: Global, given: &str, more: &str) -> Result<SpelledBytes, AllocError> {
-    let both = format!(in alloc; "{given} {more}")?;
-    spelled(alloc, &both)
+/// The first bytes of a file.
+fn cut(alloc: Global, given: &str, length: &str) -> Result<SpelledBytes, AllocError> {
+    match spelled(alloc, given) {
+        Ok(mut file) => {
+            file.bytes.truncate(length.parse().unwrap_or(usize::MAX));
+            Ok(file)
+        }
+        Err(error) => Err(error),
+    }
 }
 
 /// A file with other bytes in the place of those from an offset on.
 fn overwritten(alloc: Global, given: &str, change: &str) -> Result<SpelledBytes, AllocError> {
     let (offset, bytes) = change.split_once(' ').unwrap_or((change, ""));
-    let mut file = spelled(alloc, given)?;
-    let other = spelled(alloc, bytes)?;
-    file.misspelled.push_str(&other.misspelled)?;
-    overwrite(
-        &mut file.bytes,
-        offset.parse().unwrap_or(usize::MAX),
-        &other.bytes,
-    );
-    Ok(file)
+    let Ok(other) = spelled(alloc, bytes) else {
+        return Err(AllocError);
+    };
+    match spelled(alloc, given) {
+        Ok(file) => joined(file, offset.parse().unwrap_or(usize::MAX), &other),
+        Err(error) => Err(error),
+    }
+}
+
+fn joined(
+    mut file: SpelledBytes,
+    offset: usize,
+    other: &SpelledBytes,
+) -> Result<SpelledBytes, AllocError> {
+    overwrite(&mut file.bytes, offset, &other.bytes);
+    match file.misspelled.push_str(&other.misspelled) {
+        Ok(()) => Ok(file),
+        Err(error) => Err(error),
+    }
 }
 
 fn overwrite(bytes: &mut Vec<u8>, offset: usize, others: &[u8]) {
@@ -68,119 +86,109 @@ fn overwrite(bytes: &mut Vec<u8>, offset: usize, others: &[u8]) {
     }
 }
 
-fn reading(alloc: Global, bytes: &[u8], asked: &str) -> Result<String, AllocError> {
-    match read(alloc, bytes) {
-        Ok(class) => of_class(alloc, &class, bytes, asked),
-        Err(fault) => fault.to_string(alloc),
+fn of_file(answer: &mut Answer, file: &SpelledBytes, asked: &str) {
+    if !file.misspelled.is_empty() {
+        return answer.word(&file.misspelled);
+    }
+    match read(answer.alloc, &file.bytes) {
+        Ok(class) => of_class(answer, &class, &file.bytes, asked),
+        Err(fault) => answer.show(&fault),
     }
 }
 
-fn of_class(
-    alloc: Global,
-    class: &ClassFile,
-    bytes: &[u8],
-    asked: &str,
-) -> Result<String, AllocError> {
+fn of_class(answer: &mut Answer, class: &ClassFile, bytes: &[u8], asked: &str) {
     match asked {
-        "parts" => parts_of(alloc, class),
-        "entries" => entries_of(alloc, class),
-        _ => writing(alloc, class, bytes),
+        "parts" => add_parts(answer, class),
+        "entries" => add_entries(answer, class),
+        _ => write_back(answer, class, bytes),
     }
 }
 
-fn writing(alloc: Global, class: &ClassFile, bytes: &[u8]) -> Result<String, AllocError> {
-    let written = write(alloc, class)?;
-    let text = if written.as_slice() == bytes {
-        "read"
-    } else {
-        "written otherwise"
-    };
-    String::from_str(alloc, text)
+fn write_back(answer: &mut Answer, class: &ClassFile, bytes: &[u8]) {
+    match write(answer.alloc, class) {
+        Ok(written) if written.as_slice() == bytes => answer.word("read"),
+        Ok(_) => answer.word("written otherwise"),
+        Err(_) => answer.refuse(),
+    }
 }
 
 /// The parts of a class file, by its accessors.
-fn parts_of(alloc: Global, class: &ClassFile) -> Result<String, AllocError> {
-    let mut text = String::new(alloc);
-    let indices = class.constants().len();
-    let flags = class.access_flags();
-    write!(text, "{indices} indices, flags {flags}, ")?;
-    add_text(alloc, &mut text, class.class_name(class.this_class()))?;
-    text.push_str(" below ")?;
-    add_text(alloc, &mut text, class.class_name(class.super_class()))?;
-    add_counts(&mut text, class)?;
-    Ok(text)
+fn add_parts(answer: &mut Answer, class: &ClassFile) {
+    add_count(answer, class.constants().len(), " indices, flags ");
+    answer.show(&class.access_flags());
+    answer.word(", ");
+    add_text(answer, class.class_name(class.this_class()));
+    answer.word(" below ");
+    add_text(answer, class.class_name(class.super_class()));
+    answer.word("; ");
+    add_count(answer, class.interfaces().len(), " interfaces, ");
+    add_count(answer, class.fields().len(), " fields, ");
+    add_count(answer, class.methods().len(), " methods, ");
+    add_count(answer, class.attributes().len(), " attributes");
 }
 
-fn add_counts(text: &mut String, class: &ClassFile) -> Result<(), AllocError> {
-    let interfaces = class.interfaces().len();
-    let fields = class.fields().len();
-    let methods = class.methods().len();
-    let attributes = class.attributes().len();
-    write!(text, "; {interfaces} interfaces, {fields} fields, ")?;
-    write!(text, "{methods} methods, {attributes} attributes")
+fn add_count(answer: &mut Answer, count: usize, what: &str) {
+    answer.show(&count);
+    answer.word(what);
 }
 
 /// What stands at the first indices of the pool.
-fn entries_of(alloc: Global, class: &ClassFile) -> Result<String, AllocError> {
-    let mut text = String::new(alloc);
+fn add_entries(answer: &mut Answer, class: &ClassFile) {
     for index in 1..6 {
         if 1 < index {
-            text.push_str(", ")?;
+            answer.word(", ");
         }
         if class.constant(index).is_none() {
-            text.push_str("no entry ")?;
+            answer.word("no entry ");
         }
-        add_text(alloc, &mut text, class.utf8(index))?;
+        add_text(answer, class.utf8(index));
     }
-    Ok(text)
 }
 
-fn add_text(alloc: Global, text: &mut String, bytes: Option<&[u8]>) -> Result<(), AllocError> {
+fn add_text(answer: &mut Answer, bytes: Option<&[u8]>) {
     match bytes {
-        Some(bytes) => {
-            let printed = printed(alloc, bytes)?;
-            text.push_str(&printed)
-        }
-        None => text.push_str("no text"),
+        Some(bytes) => answer.made(printed(answer.alloc, bytes)),
+        None => answer.word("no text"),
     }
 }
 
-fn name_answer(alloc: Global, asked: &str) -> Result<String, AllocError> {
+fn of_name(answer: &mut Answer, asked: &str) {
     match asked.split_once(' ') {
-        Some(("name", text)) => of_text(alloc, text),
-        Some(("units", text)) => of_units(alloc, text),
-        _ => String::from_str(alloc, "no question"),
+        Some(("name", text)) => of_text(answer, text),
+        Some(("units", text)) => of_units(answer, text),
+        _ => answer.word("no question"),
     }
 }
 
-fn of_text(alloc: Global, text: &str) -> Result<String, AllocError> {
-    let name = ClassName::from_text(alloc, text)?;
-    let mut forms = units_text(alloc, name.units())?;
-    let spelled = name.modified_utf8(alloc)?;
-    add_forms(alloc, &mut forms, spelled.bytes())?;
-    Ok(forms)
+fn of_text(answer: &mut Answer, text: &str) {
+    match ClassName::from_text(answer.alloc, text) {
+        Ok(name) => add_forms(answer, name.units(), name.modified_utf8(answer.alloc)),
+        Err(_) => answer.refuse(),
+    }
 }
 
-fn of_units(alloc: Global, text: &str) -> Result<String, AllocError> {
-    let bytes = modified_utf8(alloc, text)?;
-    let name = ClassName::from_modified_utf8(alloc, &bytes)?;
-    let mut forms = units_text(alloc, name.units())?;
-    let spelled = ModifiedUtf8::from_units(alloc, name.units())?;
-    add_forms(alloc, &mut forms, spelled.bytes())?;
-    Ok(forms)
+fn of_units(answer: &mut Answer, text: &str) {
+    match name_of(answer.alloc, text) {
+        Ok(name) => {
+            let spelled = ModifiedUtf8::from_units(answer.alloc, name.units());
+            add_forms(answer, name.units(), spelled)
+        }
+        Err(_) => answer.refuse(),
+    }
 }
 
-fn units_text(alloc: Global, units: &[u16]) -> Result<String, AllocError> {
-    let mut text = String::new(alloc);
+/// Adds the units of a name, its bytes in a class file, and its text for a reader.
+fn add_forms(answer: &mut Answer, units: &[u16], spelled: Result<ModifiedUtf8, AllocError>) {
     for unit in units {
-        write!(text, "{unit:04X} ")?;
+        answer.hexadecimal(&unit.to_be_bytes());
+        answer.word(" ");
     }
-    Ok(text)
-}
-
-/// Adds the bytes of a name in a class file, and its text for a reader.
-fn add_forms(alloc: Global, text: &mut String, bytes: &[u8]) -> Result<(), AllocError> {
-    let digits = hexadecimal(alloc, bytes)?;
-    let printed = printed(alloc, bytes)?;
-    write!(text, "{digits} {printed}")
+    match spelled {
+        Ok(spelled) => {
+            answer.hexadecimal(spelled.bytes());
+            answer.word(" ");
+            answer.made(printed(answer.alloc, spelled.bytes()))
+        }
+        Err(_) => answer.refuse(),
+    }
 }

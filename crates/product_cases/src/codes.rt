@@ -1,91 +1,100 @@
 //! The code of a method, and its body as a text.
 
+use crate::answer::Answer;
 use bytecode::{Body, Instruction, LookupSwitch, TableSwitch, decode};
-use cases::{filled, spelled};
+use cases::{SpelledBytes, filled, spelled};
 use classfile::{ClassFile, read};
-use std::alloc::{AllocError, Global};
 use std::mem::size_of;
 
 /// The body of a code, each instruction after its pc; or why there is none. Given is the class file, with `{}` for
 /// the code of its first method. To `size` it is that of an instruction.
-pub fn answer(alloc: Global, given: &str, code: &str) -> Result<String, AllocError> {
+pub fn ask(answer: &mut Answer, given: &str, code: &str) {
     if code == "size" {
-        return size_of::<Instruction>().to_string(alloc);
+        return answer.show(&size_of::<Instruction>());
     }
-    let file = spelled(alloc, filled(alloc, given, code)?.as_str())?;
+    match filled(answer.alloc, given, code) {
+        Ok(text) => of_text(answer, &text),
+        Err(_) => answer.refuse(),
+    }
+}
+
+fn of_text(answer: &mut Answer, text: &str) {
+    match spelled(answer.alloc, text) {
+        Ok(file) => of_file(answer, &file),
+        Err(_) => answer.refuse(),
+    }
+}
+
+fn of_file(answer: &mut Answer, file: &SpelledBytes) {
     if !file.misspelled.is_empty() {
-        return Ok(file.misspelled);
+        return answer.word(&file.misspelled);
     }
-    body_in(alloc, &file.bytes)
-}
-
-fn body_in(alloc: Global, bytes: &[u8]) -> Result<String, AllocError> {
-    match read(alloc, bytes) {
-        Ok(class) => body_of(alloc, &class),
-        Err(fault) => fault.to_string(alloc),
+    match read(answer.alloc, &file.bytes) {
+        Ok(class) => of_class(answer, &class),
+        Err(fault) => answer.show(&fault),
     }
 }
 
-fn body_of(alloc: Global, class: &ClassFile) -> Result<String, AllocError> {
+fn of_class(answer: &mut Answer, class: &ClassFile) {
     if let Some(method) = class.methods().first()
         && let Some(code) = method.code()
     {
-        let body = decode(alloc, code)?;
-        return text_of(alloc, &body);
+        return match decode(answer.alloc, code) {
+            Ok(body) => add_body(answer, &body),
+            Err(_) => answer.refuse(),
+        };
     }
-    String::from_str(alloc, "no code")
+    answer.word("no code")
 }
 
-/// A body as a text.
-fn text_of(alloc: Global, body: &Body) -> Result<String, AllocError> {
-    let mut text = String::new(alloc);
+/// Adds a body, its instructions apart by commas.
+fn add_body(answer: &mut Answer, body: &Body) {
     for place in 0..u32::try_from(body.len()).unwrap_or(0) {
-        if 0 < place {
-            text.push_str(", ")?;
-        }
-        add_place(&mut text, body, place)?;
+        answer.separate(", ");
+        add_place(answer, body, place);
     }
-    Ok(text)
 }
 
 /// Adds what stands at a place: its pc, and the instruction.
-fn add_place(text: &mut String, body: &Body, place: u32) -> Result<(), AllocError> {
+fn add_place(answer: &mut Answer, body: &Body, place: u32) {
     let (Some(pc), Some(instruction)) = (body.pc(place), body.instruction(place)) else {
-        return text.push_str("nothing");
+        return answer.word("nothing");
     };
     if body.place_of(pc) != Some(place) {
-        text.push_str("another place ")?;
+        answer.word("another place ");
     }
-    write!(text, "{pc} ")?;
-    show(text, instruction)
+    answer.show(&pc);
+    answer.word(" ");
+    add_instruction(answer, instruction)
 }
 
 /// Adds an instruction, a switch with its targets in order.
-fn show(text: &mut String, instruction: &Instruction) -> Result<(), AllocError> {
+fn add_instruction(answer: &mut Answer, instruction: &Instruction) {
     match instruction {
-        Instruction::TableSwitch(table) => show_table(text, table),
-        Instruction::LookupSwitch(lookup) => show_lookup(text, lookup),
-        other => write!(text, "{other:?}"),
+        Instruction::TableSwitch(table) => add_table(answer, table),
+        Instruction::LookupSwitch(lookup) => add_lookup(answer, lookup),
+        other => answer.debug(other),
     }
 }
 
-fn show_table(text: &mut String, table: &TableSwitch) -> Result<(), AllocError> {
-    let low = table.low();
-    let default = table.default();
-    write!(text, "TableSwitch {low} {default:?}")?;
+fn add_table(answer: &mut Answer, table: &TableSwitch) {
+    answer.word("TableSwitch ");
+    answer.show(&table.low());
+    answer.word(" ");
+    answer.debug(&table.default());
     for target in table.targets() {
-        write!(text, " {target:?}")?;
+        answer.word(" ");
+        answer.debug(target);
     }
-    Ok(())
 }
 
-fn show_lookup(text: &mut String, lookup: &LookupSwitch) -> Result<(), AllocError> {
-    let default = lookup.default();
-    write!(text, "LookupSwitch {default:?}")?;
+fn add_lookup(answer: &mut Answer, lookup: &LookupSwitch) {
+    answer.word("LookupSwitch ");
+    answer.debug(&lookup.default());
     for case in lookup.cases() {
-        let key = case.key;
-        let target = case.target;
-        write!(text, " {key}:{target:?}")?;
+        answer.word(" ");
+        answer.show(&case.key);
+        answer.word(":");
+        answer.debug(&case.target);
     }
-    Ok(())
 }

@@ -1,5 +1,6 @@
 //! Runs of commands, over files and streams in memory.
 
+use crate::answer::{Answer, text_of};
 use crate::shelf::Shelf;
 use crate::streams::Narrow;
 use cli::command;
@@ -12,7 +13,9 @@ use std::thread::Threads;
 pub fn words_of<'a>(alloc: Global, text: &'a str) -> Result<Vec<&'a str>, AllocError> {
     let mut words = Vec::new(alloc);
     for word in text.split_whitespace() {
-        words.push(word.trim_matches('\''))?;
+        let Ok(()) = words.push(word.trim_matches('\'')) else {
+            return Err(AllocError);
+        };
     }
     Ok(words)
 }
@@ -46,7 +49,9 @@ pub fn done<R: Threads + Wait + Sync>(
     text: &str,
     rooms: Rooms,
 ) -> Result<CommandAnswer, AllocError> {
-    let words = words_of(alloc, text)?;
+    let Ok(words) = words_of(alloc, text) else {
+        return Err(AllocError);
+    };
     let out = Narrow::new(alloc, rooms.out);
     let mut errors = Narrow::new(alloc, rooms.errors);
     let (status, out) = command(rt, alloc, &words, shelf, out, &mut errors);
@@ -57,64 +62,67 @@ pub fn done<R: Threads + Wait + Sync>(
     })
 }
 
-/// The status, and between brackets what both streams got.
-pub fn answer_text(
+/// Does a command over class files: these words, which the names of the files follow.
+pub fn done_over<R: Threads + Wait + Sync>(
+    rt: &R,
     alloc: Global,
-    status: u8,
-    out: &[u8],
-    errors: &[u8],
-) -> Result<String, AllocError> {
-    let out = from_utf8(out).unwrap_or("no text");
-    let errors = from_utf8(errors).unwrap_or("no text");
-    format!(in alloc; "{status} [{out}] [{errors}]")
+    shelf: &mut Shelf,
+    command: &str,
+    files: &[Vec<u8>],
+) -> Result<CommandAnswer, AllocError> {
+    let mut words = Answer::new(alloc);
+    words.word(command);
+    for file in files {
+        shelf.add_file(&mut words, file);
+    }
+    match words.finish() {
+        Ok(words) => done(rt, alloc, shelf, &words, ROOMY),
+        Err(error) => Err(error),
+    }
+}
+
+/// The status, and between brackets what both streams got.
+pub fn add_streams(answer: &mut Answer, status: u8, out: &[u8], errors: &[u8]) {
+    let out = text_of(out);
+    let errors = text_of(errors);
+    answer.show(&status);
+    answer.bracketed(out);
+    answer.bracketed(errors)
 }
 
 /// The status, and between brackets what the file of a name holds.
-pub fn file_text(
-    alloc: Global,
-    status: u8,
-    shelf: &Shelf,
-    name: &str,
-) -> Result<String, AllocError> {
+pub fn add_file(answer: &mut Answer, status: u8, shelf: &Shelf, name: &str) {
+    answer.show(&status);
     match shelf.find(name) {
-        Some(bytes) => {
-            let held = from_utf8(bytes).unwrap_or("no text");
-            format!(in alloc; "{status} [{held}]")
-        }
-        None => format!(in alloc; "{status} no file"),
+        Some(bytes) => answer.bracketed(text_of(bytes)),
+        None => answer.word(" no file"),
     }
 }
 
 /// The status, and `same` where two files are there and hold the same bytes, or else `others`.
-pub fn same_text(
-    alloc: Global,
-    status: u8,
-    shelf: &Shelf,
-    name: &str,
-    other: &str,
-) -> Result<String, AllocError> {
-    let found = match (shelf.find(name), shelf.find(other)) {
-        (Some(one), Some(another)) if one == another => "same",
-        _ => "others",
-    };
-    format!(in alloc; "{status} {found}")
+pub fn add_sameness(answer: &mut Answer, status: u8, shelf: &Shelf, name: &str, other: &str) {
+    answer.show(&status);
+    match (shelf.find(name), shelf.find(other)) {
+        (Some(one), Some(another)) if one == another => answer.word(" same"),
+        _ => answer.word(" others"),
+    }
 }
 
 /// What went to standard output, or, where that is nothing, to standard error.
-pub fn output_text(alloc: Global, done: &CommandAnswer) -> Result<String, AllocError> {
+pub fn add_output(answer: &mut Answer, done: &CommandAnswer) {
     let shown = if done.out.is_empty() {
         &done.errors
     } else {
         &done.out
     };
-    String::from_str(alloc, from_utf8(shown).unwrap_or("no text"))
+    answer.word(text_of(shown))
 }
 
 /// The status, and which of the two streams got a text where the other got nothing.
-pub fn stream_text(alloc: Global, done: &CommandAnswer, text: &str) -> Result<String, AllocError> {
-    let status = done.status;
-    let stream = stream_with(&done.out, &done.errors, text);
-    format!(in alloc; "{status} {stream}")
+pub fn add_stream(answer: &mut Answer, done: &CommandAnswer, text: &str) {
+    answer.show(&done.status);
+    answer.word(" ");
+    answer.word(stream_with(&done.out, &done.errors, text))
 }
 
 fn stream_with(out: &[u8], errors: &[u8], text: &str) -> &'static str {

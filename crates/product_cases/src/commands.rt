@@ -1,21 +1,26 @@
 //! Commands of `preinit`, and the steps of a run that `cli` offers.
 
+use crate::answer::Answer;
 use crate::class_bytes::number;
 use crate::command_runs::{
-    CommandAnswer, ROOMY, Rooms, answer_text, done, file_text, same_text, stream_text, words_of,
+    CommandAnswer, ROOMY, Rooms, add_file, add_sameness, add_stream, add_streams, done, words_of,
 };
+use crate::programs;
 use crate::shelf::Shelf;
+use classfile::ClassName;
 use cli::{
-    Audit, Build, Building, CommandFault, Explain, Lazy, Renew, Replay, Request, Rest, Run, Status,
+    Audit, Build, Building, CommandFault, Explain, Lazy, Renew, Replay, Request, Rest, Run,
     entries_of, line, linked_program, status_of, thread_lines,
 };
 use init_engine::Ending;
 use program::Program;
 use std::alloc::{AllocError, Global};
-use std::str::SplitWhitespace;
 use std::sync::Wait;
 use std::thread::Threads;
 use vm_state::ends::FaultKind;
+
+/// What a command answers that ends well and writes nothing.
+const SILENCE: &str = "0 [] []";
 
 /// Given are files, each as its name, ` = ` and a class in its text form, or `image` and the bytes of an image before
 /// its digest as words (`src/shelf.rt`).
@@ -31,50 +36,62 @@ use vm_state::ends::FaultKind;
 /// `line WORDS` asks what the words ask for, and `entries LIST` for the names of a list. `program FILE ..` asks why
 /// files make no program, `lines ENDING ..` for the lines of threads, and `ended ENDING ..`, `stuck ENDING ..` and
 /// `limited ENDING ..` for the status of a run whose threads have all ended, none has a step, or one still has.
-pub fn answer<R: Threads + Wait + Sync>(
-    rt: &R,
-    alloc: Global,
-    given: &str,
-    asked: &str,
-) -> Result<String, AllocError> {
-    let mut shelf = Shelf::new(alloc);
-    let lines = given.replace(alloc, "\n  ", " ")?;
-    let misspelled = shelf.add_lines(&lines)?;
-    if !misspelled.is_empty() {
-        return format!(in alloc; "misspelled{misspelled}");
+pub fn ask<R: Threads + Wait + Sync>(rt: &R, answer: &mut Answer, given: &str, asked: &str) {
+    match given.replace(answer.alloc, "\n  ", " ") {
+        Ok(lines) => ask_over(rt, answer, &lines, asked),
+        Err(_) => answer.refuse(),
     }
+}
+
+fn ask_over<R: Threads + Wait + Sync>(rt: &R, answer: &mut Answer, lines: &str, asked: &str) {
+    let mut shelf = Shelf::new(answer.alloc);
+    let mut misspelled = Answer::new(answer.alloc);
+    shelf.add_lines(&mut misspelled, lines);
+    match misspelled.finish() {
+        Ok(none) if none.is_empty() => of_shelf(rt, answer, &mut shelf, asked),
+        Ok(some) => {
+            answer.word("misspelled");
+            answer.word(&some)
+        }
+        Err(_) => answer.refuse(),
+    }
+}
+
+fn of_shelf<R: Threads + Wait + Sync>(rt: &R, answer: &mut Answer, shelf: &mut Shelf, asked: &str) {
     match asked.strip_prefix("preinit") {
-        Some(words) => of_commands(rt, alloc, &mut shelf, words),
-        None => of_part(alloc, &shelf, asked),
+        Some(words) => of_commands(rt, answer, shelf, words),
+        None => of_part(answer, shelf, asked),
     }
 }
 
 /// What the last of some commands answers, or the first that does not end well in silence.
 fn of_commands<R: Threads + Wait + Sync>(
     rt: &R,
-    alloc: Global,
+    answer: &mut Answer,
     shelf: &mut Shelf,
     asked: &str,
-) -> Result<String, AllocError> {
-    let mut before = String::from_str(alloc, "0 [] []")?;
+) {
+    answer.word(SILENCE);
     for words in asked.split(" && preinit") {
-        if before.as_str() == "0 [] []" {
-            before = of_command(rt, alloc, shelf, words)?;
+        if answer.as_str() == SILENCE {
+            answer.clear();
+            of_command(rt, answer, shelf, words);
         }
     }
-    Ok(before)
 }
 
 fn of_command<R: Threads + Wait + Sync>(
     rt: &R,
-    alloc: Global,
+    answer: &mut Answer,
     shelf: &mut Shelf,
     asked: &str,
-) -> Result<String, AllocError> {
+) {
     let (words, how) = asked.split_once(" | ").unwrap_or((asked, ""));
     let (verb, about) = how.split_once(' ').unwrap_or((how, ""));
-    let done = done(rt, alloc, shelf, words, rooms_of(verb, about))?;
-    done_text(alloc, shelf, verb, about, &done)
+    match done(rt, answer.alloc, shelf, words, rooms_of(verb, about)) {
+        Ok(done) => add_done(answer, shelf, verb, about, &done),
+        Err(_) => answer.refuse(),
+    }
 }
 
 /// How much room the streams have for a question.
@@ -100,212 +117,218 @@ fn rooms_of(verb: &str, about: &str) -> Rooms {
 }
 
 /// What is asked of a command that is done.
-fn done_text(
-    alloc: Global,
-    shelf: &Shelf,
-    verb: &str,
-    about: &str,
-    done: &CommandAnswer,
-) -> Result<String, AllocError> {
+fn add_done(answer: &mut Answer, shelf: &Shelf, verb: &str, about: &str, done: &CommandAnswer) {
     let (first, second) = about.split_once(' ').unwrap_or((about, ""));
     match verb {
-        "" => answer_text(alloc, done.status, &done.out, &done.errors),
-        "output" => answer_text(alloc, done.status, &[], &done.errors),
-        "errors" => answer_text(alloc, done.status, &done.out, &[]),
-        "file" => file_text(alloc, done.status, shelf, first),
-        "same" => same_text(alloc, done.status, shelf, first, second),
-        "begins" => beginning(alloc, done, number(about)),
-        "has" => stream_text(alloc, done, about),
-        _ => String::from_str(alloc, "no question"),
+        "" => add_streams(answer, done.status, &done.out, &done.errors),
+        "output" => add_streams(answer, done.status, &[], &done.errors),
+        "errors" => add_streams(answer, done.status, &done.out, &[]),
+        "file" => add_file(answer, done.status, shelf, first),
+        "same" => add_sameness(answer, done.status, shelf, first, second),
+        "begins" => add_beginning(answer, done, number(about)),
+        "has" => add_stream(answer, done, about),
+        _ => answer.word("no question"),
     }
 }
 
 /// The first bytes of an answer.
-fn beginning(alloc: Global, done: &CommandAnswer, length: usize) -> Result<String, AllocError> {
-    let whole = answer_text(alloc, done.status, &done.out, &done.errors)?;
-    match whole.as_str().get(..length) {
-        Some(part) => String::from_str(alloc, part),
-        None => Ok(whole),
+fn add_beginning(answer: &mut Answer, done: &CommandAnswer, length: usize) {
+    let mut whole = Answer::new(answer.alloc);
+    add_streams(&mut whole, done.status, &done.out, &done.errors);
+    match whole.finish() {
+        Ok(whole) => answer.word(whole.as_str().get(..length).unwrap_or(&whole)),
+        Err(_) => answer.refuse(),
     }
 }
 
-fn of_part(alloc: Global, shelf: &Shelf, asked: &str) -> Result<String, AllocError> {
+fn of_part(answer: &mut Answer, shelf: &Shelf, asked: &str) {
     let (word, about) = asked.split_once(' ').unwrap_or((asked, ""));
     match word {
-        "line" => request(alloc, about),
-        "entries" => names_in(alloc, about),
-        "program" => of_program(alloc, shelf, about),
-        "lines" => lines_of(alloc, shelf, about),
-        "ended" => status_text(alloc, about, Rest::Ended),
-        "stuck" => status_text(alloc, about, Rest::Stuck),
-        "limited" => status_text(alloc, about, Rest::Going),
-        _ => String::from_str(alloc, "no question"),
+        "line" => add_request(answer, about),
+        "entries" => add_names(answer, about),
+        "program" => of_program(answer, shelf, about),
+        "lines" => add_lines(answer, about),
+        "ended" => add_status(answer, about, Rest::Ended),
+        "stuck" => add_status(answer, about, Rest::Stuck),
+        "limited" => add_status(answer, about, Rest::Going),
+        _ => answer.word("no question"),
     }
 }
 
 /// What the words of a text ask for.
-fn request(alloc: Global, text: &str) -> Result<String, AllocError> {
-    let words = words_of(alloc, text)?;
-    match line(alloc, &words) {
-        Ok(request) => request_text(alloc, &request),
-        Err(_) => String::from_str(alloc, "no command"),
+fn add_request(answer: &mut Answer, text: &str) {
+    let Ok(words) = words_of(answer.alloc, text) else {
+        return answer.refuse();
+    };
+    match line(answer.alloc, &words) {
+        Ok(request) => of_request(answer, &request),
+        Err(_) => answer.word("no command"),
     }
 }
 
-fn request_text(alloc: Global, request: &Request<'_>) -> Result<String, AllocError> {
+fn of_request(answer: &mut Answer, request: &Request<'_>) {
     match request {
-        Request::Audit(audit) => audit_text(alloc, audit),
-        Request::Build(build) => build_text(alloc, build),
-        Request::Explain(explain) => explain_text(alloc, explain),
-        Request::Lazy(lazy) => lazy_text(alloc, lazy),
-        Request::Report(building) => building_text(alloc, "report", building),
-        Request::Renew(renew) => renew_text(alloc, renew),
-        Request::Replay(replay) => replay_text(alloc, replay),
-        Request::Run(run) => run_text(alloc, run),
+        Request::Audit(audit) => add_audit(answer, audit),
+        Request::Build(build) => add_build(answer, build),
+        Request::Explain(explain) => add_explain(answer, explain),
+        Request::Lazy(lazy) => add_lazy(answer, lazy),
+        Request::Report(building) => {
+            answer.word("report");
+            add_building(answer, building)
+        }
+        Request::Renew(renew) => add_renew(answer, renew),
+        Request::Replay(replay) => add_replay(answer, replay),
+        Request::Run(run) => add_run(answer, run),
     }
 }
 
-fn audit_text(alloc: Global, audit: &Audit<'_>) -> Result<String, AllocError> {
-    let entries = audit.entries;
-    let mut text = format!(in alloc; "audit [{entries}]")?;
-    for file in &audit.files {
-        write!(text, " [{file}]")?;
+fn add_audit(answer: &mut Answer, audit: &Audit<'_>) {
+    answer.word("audit");
+    answer.bracketed(audit.entries);
+    add_files(answer, &audit.files)
+}
+
+fn add_files(answer: &mut Answer, files: &[&str]) {
+    for file in files {
+        answer.bracketed(file);
     }
-    Ok(text)
 }
 
-fn explain_text(alloc: Global, explain: &Explain<'_>) -> Result<String, AllocError> {
-    let class = explain.class;
-    let command = format!(in alloc; "explain [{class}]")?;
-    building_text(alloc, &command, &explain.building)
+fn add_explain(answer: &mut Answer, explain: &Explain<'_>) {
+    answer.word("explain");
+    answer.bracketed(explain.class);
+    add_building(answer, &explain.building)
 }
 
-fn lazy_text(alloc: Global, lazy: &Lazy<'_>) -> Result<String, AllocError> {
-    let entries = lazy.entries;
-    let limit = lazy.limit;
-    let stacks = stacks_word(lazy.stacks);
-    let mut text = format!(in alloc; "lazy [{entries}] {limit}{stacks}")?;
-    for file in &lazy.files {
-        write!(text, " [{file}]")?;
-    }
-    Ok(text)
+fn add_lazy(answer: &mut Answer, lazy: &Lazy<'_>) {
+    answer.word("lazy");
+    answer.bracketed(lazy.entries);
+    add_limit(answer, lazy.limit, lazy.stacks);
+    add_files(answer, &lazy.files)
 }
 
-fn run_text(alloc: Global, run: &Run<'_>) -> Result<String, AllocError> {
-    let entries = run.entries;
-    let limit = run.limit;
-    let image = run.image;
-    let how = if run.turns { "run" } else { "run by threads" };
-    let stacks = stacks_word(run.stacks);
-    let mut text = format!(in alloc; "{how} [{entries}] {limit}{stacks} [{image}]")?;
-    if let Some(journal) = run.journal {
-        write!(text, " journal [{journal}]")?;
-    }
-    Ok(text)
+/// How many steps a run may take, and whether its stacks are asked for.
+fn add_limit(answer: &mut Answer, limit: u64, stacks: bool) {
+    answer.word(" ");
+    answer.show(&limit);
+    answer.word(stacks_word(stacks))
 }
 
-fn renew_text(alloc: Global, renew: &Renew<'_>) -> Result<String, AllocError> {
-    let new = renew.new;
-    let image = renew.image;
-    format!(in alloc; "renew [{new}] [{image}]")
-}
-
-fn replay_text(alloc: Global, replay: &Replay<'_>) -> Result<String, AllocError> {
-    let entries = replay.entries;
-    let journal = replay.journal;
-    let image = replay.image;
-    let stacks = stacks_word(replay.stacks);
-    format!(in alloc; "replay [{entries}] [{journal}]{stacks} [{image}]")
-}
-
-/// What is said of a run whose stacks are asked for.
 fn stacks_word(asked: bool) -> &'static str {
     if asked { " stacks" } else { "" }
 }
 
-fn build_text(alloc: Global, build: &Build<'_>) -> Result<String, AllocError> {
-    let image = build.image;
-    let workers = build.workers;
-    let command = if workers == 1 {
-        format!(in alloc; "build [{image}]")?
-    } else {
-        format!(in alloc; "build by {workers} [{image}]")?
-    };
-    let mut text = building_text(alloc, &command, &build.building)?;
-    if let Some(report) = build.report {
-        write!(text, " report [{report}]")?;
+fn add_run(answer: &mut Answer, run: &Run<'_>) {
+    answer.word(if run.turns { "run" } else { "run by threads" });
+    answer.bracketed(run.entries);
+    add_limit(answer, run.limit, run.stacks);
+    answer.bracketed(run.image);
+    add_named(answer, " journal", run.journal)
+}
+
+/// Adds a file after what it is for, where there is one.
+fn add_named(answer: &mut Answer, what: &str, file: Option<&str>) {
+    if let Some(file) = file {
+        answer.word(what);
+        answer.bracketed(file)
     }
-    Ok(text)
+}
+
+fn add_renew(answer: &mut Answer, renew: &Renew<'_>) {
+    answer.word("renew");
+    answer.bracketed(renew.new);
+    answer.bracketed(renew.image)
+}
+
+fn add_replay(answer: &mut Answer, replay: &Replay<'_>) {
+    answer.word("replay");
+    answer.bracketed(replay.entries);
+    answer.bracketed(replay.journal);
+    answer.word(stacks_word(replay.stacks));
+    answer.bracketed(replay.image)
+}
+
+fn add_build(answer: &mut Answer, build: &Build<'_>) {
+    answer.word("build");
+    if build.workers != 1 {
+        answer.word(" by ");
+        answer.show(&build.workers)
+    }
+    answer.bracketed(build.image);
+    add_building(answer, &build.building);
+    add_named(answer, " report", build.report)
 }
 
 /// What the words of a build ask for, after the command.
-fn building_text(
-    alloc: Global,
-    command: &str,
-    building: &Building<'_>,
-) -> Result<String, AllocError> {
-    let build_time = building.build_time.unwrap_or("none");
-    let run_time = building.run_time.unwrap_or("none");
-    let budget = building.budget;
-    let mut text = format!(in alloc; "{command} [{build_time}] [{run_time}] {budget}")?;
-    for file in &building.files {
-        write!(text, " [{file}]")?;
-    }
-    Ok(text)
+fn add_building(answer: &mut Answer, building: &Building<'_>) {
+    answer.bracketed(building.build_time.unwrap_or("none"));
+    answer.bracketed(building.run_time.unwrap_or("none"));
+    answer.word(" ");
+    answer.show(&building.budget);
+    add_files(answer, &building.files)
 }
 
 /// The names of a list of entries, each between quotes.
-fn names_in(alloc: Global, list: &str) -> Result<String, AllocError> {
-    let mut names = String::new(alloc);
-    let entries = entries_of(alloc, list)?;
-    for entry in &entries {
-        write!(names, "'{entry}'")?;
+fn add_names(answer: &mut Answer, list: &str) {
+    match entries_of(answer.alloc, list) {
+        Ok(entries) => add_quoted(answer, &entries),
+        Err(_) => answer.refuse(),
     }
-    Ok(names)
+}
+
+fn add_quoted(answer: &mut Answer, names: &[ClassName]) {
+    for name in names {
+        answer.word("'");
+        answer.show(name);
+        answer.word("'");
+    }
 }
 
 /// The files of a text of names; one that is not there is empty.
-fn files_of(alloc: Global, shelf: &Shelf, names: &str) -> Result<Vec<Vec<u8>>, AllocError> {
-    let mut files = Vec::new(alloc);
+fn files_of(answer: &mut Answer, shelf: &Shelf, names: &str) -> Vec<Vec<u8>> {
+    let mut files = Vec::new(answer.alloc);
     for name in names.split_whitespace() {
-        let bytes = shelf.find(name).unwrap_or(&[]);
-        files.push(Vec::from_slice(alloc, bytes)?)?;
+        programs::add_file(answer, &mut files, shelf.find(name).unwrap_or(&[]));
     }
-    Ok(files)
+    files
 }
 
 /// Why files make no program, and the status then.
-fn of_program(alloc: Global, shelf: &Shelf, names: &str) -> Result<String, AllocError> {
-    let files = files_of(alloc, shelf, names)?;
-    match linked_program(alloc, &files) {
-        Ok(_) => String::from_str(alloc, "a program"),
-        Err(refusal) => refusal_text(alloc, &refusal),
+fn of_program(answer: &mut Answer, shelf: &Shelf, names: &str) {
+    let files = files_of(answer, shelf, names);
+    match linked_program(answer.alloc, &files) {
+        Ok(_) => answer.word("a program"),
+        Err(refusal) => add_refusal(answer, &refusal),
     }
 }
 
-fn refusal_text(alloc: Global, refusal: &CommandFault) -> Result<String, AllocError> {
-    let status = refusal.status();
-    format!(in alloc; "{refusal}, {status:?}")
+fn add_refusal(answer: &mut Answer, refusal: &CommandFault) {
+    answer.show(refusal);
+    answer.word(", ");
+    answer.debug(&refusal.status())
 }
 
 /// The lines of threads that ended so, over a program without classes.
-fn lines_of(alloc: Global, shelf: &Shelf, endings: &str) -> Result<String, AllocError> {
-    let files = files_of(alloc, shelf, "")?;
-    match linked_program(alloc, &files) {
-        Ok(program) => lines_over(alloc, &program, endings),
-        Err(refusal) => refusal_text(alloc, &refusal),
+fn add_lines(answer: &mut Answer, endings: &str) {
+    match linked_program(answer.alloc, &[]) {
+        Ok(program) => add_lines_over(answer, &program, endings),
+        Err(refusal) => add_refusal(answer, &refusal),
     }
 }
 
-fn lines_over(alloc: Global, program: &Program, endings: &str) -> Result<String, AllocError> {
-    let endings = endings_of(alloc, endings.split_whitespace())?;
-    thread_lines(alloc, program, &endings)
+fn add_lines_over(answer: &mut Answer, program: &Program, endings: &str) {
+    match endings_of(answer.alloc, endings) {
+        Ok(endings) => answer.made(thread_lines(answer.alloc, program, &endings)),
+        Err(_) => answer.refuse(),
+    }
 }
 
-fn endings_of(alloc: Global, words: SplitWhitespace<'_>) -> Result<Vec<Ending>, AllocError> {
+fn endings_of(alloc: Global, words: &str) -> Result<Vec<Ending>, AllocError> {
     let mut endings = Vec::new(alloc);
-    for word in words {
-        endings.push(ending_of(word))?;
+    for word in words.split_whitespace() {
+        let Ok(()) = endings.push(ending_of(word)) else {
+            return Err(AllocError);
+        };
     }
     Ok(endings)
 }
@@ -321,9 +344,14 @@ fn ending_of(word: &str) -> Ending {
 }
 
 /// The status of a run whose threads ended so.
-fn status_text(alloc: Global, endings: &str, rest: Rest) -> Result<String, AllocError> {
-    let endings = endings_of(alloc, endings.split_whitespace())?;
-    let status: Status = status_of(&endings, rest);
-    let code = status.code();
-    format!(in alloc; "{code} {status:?}")
+fn add_status(answer: &mut Answer, endings: &str, rest: Rest) {
+    match endings_of(answer.alloc, endings) {
+        Ok(endings) => {
+            let status = status_of(&endings, rest);
+            answer.show(&status.code());
+            answer.word(" ");
+            answer.debug(&status)
+        }
+        Err(_) => answer.refuse(),
+    }
 }

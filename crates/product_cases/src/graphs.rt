@@ -1,7 +1,7 @@
 //! Graphs of numbered vertices, and what is answered of them.
 
+use crate::answer::Answer;
 use graph::{Arrangement, Graph, Visited, arrange, reach};
-use std::alloc::{AllocError, Global};
 use std::str::SplitWhitespace;
 
 /// Given are lines: `vertices COUNT`, then `edge FROM TO`, `chain`, which has each vertex lead to the next, and
@@ -9,39 +9,28 @@ use std::str::SplitWhitespace;
 ///
 /// Asked is `arrange`, for the order or the least vertex on a cycle; `arrange all`, for whether the order has all
 /// vertices, each after its successors; or `reach VERTEX` and `reach VERTEX cleared`, for what is reached.
-pub fn answer(alloc: Global, given: &str, asked: &str) -> Result<String, AllocError> {
-    let graph = graph_of(alloc, given)?;
-    match asked.split_once(' ') {
-        None => arranged(alloc, &graph, false),
-        Some(("arrange", _)) => arranged(alloc, &graph, true),
-        Some((_, vertex)) => reached(alloc, &graph, vertex),
-    }
-}
-
-fn graph_of(alloc: Global, given: &str) -> Result<Graph, AllocError> {
+pub fn ask(answer: &mut Answer, given: &str, asked: &str) {
     let (first, lines) = given.split_once('\n').unwrap_or((given, ""));
     let (_, count) = first.split_once(' ').unwrap_or(("", ""));
-    let mut graph = Graph::new(alloc, count.parse().unwrap_or(0))?;
-    add_lines(&mut graph, lines)?;
-    Ok(graph)
+    let Ok(mut graph) = Graph::new(answer.alloc, count.parse().unwrap_or(0)) else {
+        return answer.refuse();
+    };
+    add_lines(answer, &mut graph, lines);
+    of_graph(answer, &graph, asked)
 }
 
-fn add_lines(graph: &mut Graph, lines: &str) -> Result<(), AllocError> {
+fn add_lines(answer: &mut Answer, graph: &mut Graph, lines: &str) {
     for line in lines.lines() {
-        let mut words = line.split_whitespace();
-        match words.next() {
-            Some("edge") => add_edge(graph, words)?,
-            Some("chain") => add_chain(graph)?,
-            _ => add_diamonds(graph, number(words.next()))?,
-        }
+        add_line(answer, graph, line.split_whitespace());
     }
-    Ok(())
 }
 
-fn add_edge(graph: &mut Graph, mut words: SplitWhitespace<'_>) -> Result<(), AllocError> {
-    let from = number(words.next());
-    let to = number(words.next());
-    link(graph, from, to)
+fn add_line(answer: &mut Answer, graph: &mut Graph, mut words: SplitWhitespace<'_>) {
+    match words.next() {
+        Some("edge") => link(answer, graph, number(words.next()), number(words.next())),
+        Some("chain") => add_chain(answer, graph),
+        _ => add_diamonds(answer, graph, number(words.next())),
+    }
 }
 
 fn number(word: Option<&str>) -> usize {
@@ -49,58 +38,82 @@ fn number(word: Option<&str>) -> usize {
 }
 
 /// Adds an edge, where both are vertices.
-fn link(graph: &mut Graph, from: usize, to: usize) -> Result<(), AllocError> {
+fn link(answer: &mut Answer, graph: &mut Graph, from: usize, to: usize) {
     if from < graph.len() && to < graph.len() {
-        graph.add(from, to)?;
+        answer.note(graph.add(from, to));
     }
-    Ok(())
 }
 
-fn add_chain(graph: &mut Graph) -> Result<(), AllocError> {
+fn add_chain(answer: &mut Answer, graph: &mut Graph) {
     for vertex in 1..graph.len() {
-        link(graph, vertex - 1, vertex)?;
+        link(answer, graph, vertex - 1, vertex);
     }
-    Ok(())
 }
 
-fn add_diamonds(graph: &mut Graph, count: usize) -> Result<(), AllocError> {
+fn add_diamonds(answer: &mut Answer, graph: &mut Graph, count: usize) {
     for level in 0..count.min(1000) {
-        link(graph, 3 * level, 3 * level + 1)?;
-        link(graph, 3 * level, 3 * level + 2)?;
-        link(graph, 3 * level + 1, 3 * level + 3)?;
-        link(graph, 3 * level + 2, 3 * level + 3)?;
-    }
-    Ok(())
-}
-
-fn arranged(alloc: Global, graph: &Graph, is_large: bool) -> Result<String, AllocError> {
-    match arrange(alloc, graph)? {
-        Arrangement::Order(order) if is_large => order_checked(alloc, graph, &order),
-        Arrangement::Order(order) => order_text(alloc, &order),
-        Arrangement::Cycle(vertex) => format!(in alloc; "a circle at {vertex}"),
+        link(answer, graph, 3 * level, 3 * level + 1);
+        link(answer, graph, 3 * level, 3 * level + 2);
+        link(answer, graph, 3 * level + 1, 3 * level + 3);
+        link(answer, graph, 3 * level + 2, 3 * level + 3);
     }
 }
 
-fn order_text(alloc: Global, order: &[usize]) -> Result<String, AllocError> {
-    let mut text = String::from_str(alloc, "order")?;
-    for vertex in order {
-        write!(text, " {vertex}")?;
+fn of_graph(answer: &mut Answer, graph: &Graph, asked: &str) {
+    match asked.split_once(' ') {
+        None => add_arrangement(answer, graph, false),
+        Some(("arrange", _)) => add_arrangement(answer, graph, true),
+        Some((_, vertex)) => add_reached(answer, graph, vertex),
     }
-    Ok(text)
+}
+
+fn add_arrangement(answer: &mut Answer, graph: &Graph, is_large: bool) {
+    match arrange(answer.alloc, graph) {
+        Ok(Arrangement::Order(order)) if is_large => check_order(answer, graph, &order),
+        Ok(Arrangement::Order(order)) => {
+            answer.word("order");
+            add_vertices(answer, &order)
+        }
+        Ok(Arrangement::Cycle(vertex)) => {
+            answer.word("a circle at ");
+            answer.show(&vertex)
+        }
+        Err(_) => answer.refuse(),
+    }
+}
+
+fn add_vertices(answer: &mut Answer, vertices: &[usize]) {
+    for vertex in vertices {
+        answer.word(" ");
+        answer.show(vertex);
+    }
 }
 
 /// How many vertices an order has, each once and after its successors; or what is wrong with it.
-fn order_checked(alloc: Global, graph: &Graph, order: &[usize]) -> Result<String, AllocError> {
-    let mut are_before = vec![in alloc; false; graph.len()]?;
-    if let Some(vertex) = first_out_of_order(graph, order, &mut are_before) {
-        return format!(in alloc; "{vertex} before a successor");
+fn check_order(answer: &mut Answer, graph: &Graph, order: &[usize]) {
+    let Ok(mut are_before) = vec![in answer.alloc; false; graph.len()] else {
+        return answer.refuse();
+    };
+    match first_out_of_order(graph, order, &mut are_before) {
+        Some(vertex) => {
+            answer.show(&vertex);
+            answer.word(" before a successor")
+        }
+        None => {
+            answer.show(&count_of(&are_before));
+            answer.word(" of ");
+            answer.show(&order.len());
+            answer.word(" in order")
+        }
     }
+}
+
+fn count_of(marks: &[bool]) -> u64 {
     let mut count = 0u64;
-    for is_there in &are_before {
-        count = count.saturating_add(u64::from(*is_there));
+    for mark in marks {
+        count = count.saturating_add(u64::from(*mark));
     }
-    let length = order.len();
-    format!(in alloc; "{count} of {length} in order")
+    count
 }
 
 /// The first vertex that is not after all its successors. Those before it are marked.
@@ -126,30 +139,32 @@ fn is_after_successors(graph: &Graph, vertex: usize, are_before: &[bool]) -> boo
     true
 }
 
-fn reached(alloc: Global, graph: &Graph, words: &str) -> Result<String, AllocError> {
+fn add_reached(answer: &mut Answer, graph: &Graph, words: &str) {
     let (vertex, is_cleared) = match words.strip_suffix(" cleared") {
         Some(vertex) => (vertex, true),
         None => (words, false),
     };
     let vertex = vertex.parse().unwrap_or(usize::MAX);
     if vertex >= graph.len() {
-        return String::from_str(alloc, "no vertex");
+        return answer.word("no vertex");
     }
-    let mut visited = reach(alloc, graph, vertex)?;
-    if is_cleared {
-        visited.clear();
+    match reach(answer.alloc, graph, vertex) {
+        Ok(visited) => add_visited(answer, graph, visited, is_cleared),
+        Err(_) => answer.refuse(),
     }
-    visited_text(alloc, graph, &visited)
 }
 
 /// How many members a set has, and which.
-fn visited_text(alloc: Global, graph: &Graph, visited: &Visited) -> Result<String, AllocError> {
-    let count = visited.len();
-    let mut text = format!(in alloc; "{count}:")?;
+fn add_visited(answer: &mut Answer, graph: &Graph, mut visited: Visited, is_cleared: bool) {
+    if is_cleared {
+        visited.clear();
+    }
+    answer.show(&visited.len());
+    answer.word(":");
     for vertex in 0..graph.len() {
         if visited.has(vertex) {
-            write!(text, " {vertex}")?;
+            answer.word(" ");
+            answer.show(&vertex);
         }
     }
-    Ok(text)
 }

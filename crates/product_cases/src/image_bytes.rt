@@ -1,11 +1,12 @@
 //! The bytes of an image that is built of classes, and what reading them answers, whole, cut and changed.
 
-use crate::class_bytes::{hexadecimal, number};
-use crate::command_runs::{ROOMY, done};
+use crate::answer::Answer;
+use crate::class_bytes::{number, part_of};
+use crate::command_runs::done_over;
 use crate::image_sinks::failing;
+use crate::programs;
 use crate::shelf::{Shelf, add_digest};
 use image_reader::read;
-use std::alloc::{AllocError, Global};
 use std::sync::Wait;
 use std::thread::Threads;
 
@@ -14,29 +15,37 @@ const HEADER: usize = 10;
 
 const DIGEST: usize = 32;
 
-/// The image of class files, by the command `build`; no bytes where it is refused.
-pub fn built<R: Threads + Wait + Sync>(
-    rt: &R,
-    alloc: Global,
-    files: &[Vec<u8>],
-) -> Result<Vec<u8>, AllocError> {
-    built_by(rt, alloc, "build --out image", files)
+/// How an image is built.
+const BUILD: &str = "build --out image";
+
+/// The image of class files; no bytes where it is refused.
+pub fn built<R: Threads + Wait + Sync>(rt: &R, answer: &mut Answer, files: &[Vec<u8>]) -> Vec<u8> {
+    built_by(rt, answer, BUILD, files)
 }
 
 /// The image of class files, by these words, which the names of the files follow.
 fn built_by<R: Threads + Wait + Sync>(
     rt: &R,
-    alloc: Global,
+    answer: &mut Answer,
     command: &str,
     files: &[Vec<u8>],
-) -> Result<Vec<u8>, AllocError> {
-    let mut shelf = Shelf::new(alloc);
-    let mut words = String::from_str(alloc, command)?;
-    for file in files {
-        shelf.add_file(&mut words, file)?;
+) -> Vec<u8> {
+    let mut shelf = Shelf::new(answer.alloc);
+    if done_over(rt, answer.alloc, &mut shelf, command, files).is_err() {
+        answer.refuse()
     }
-    let _done = done(rt, alloc, &mut shelf, &words, ROOMY)?;
-    Vec::from_slice(alloc, shelf.find("image").unwrap_or(&[]))
+    answer.copied(shelf.find("image").unwrap_or(&[]))
+}
+
+/// Whether a build by these words gives these bytes.
+fn is_built<R: Threads + Wait + Sync>(
+    rt: &R,
+    answer: &mut Answer,
+    command: &str,
+    files: &[Vec<u8>],
+    bytes: &[u8],
+) -> bool {
+    built_by(rt, answer, command, files).as_slice() == bytes
 }
 
 /// Asked are of the image:
@@ -51,34 +60,30 @@ fn built_by<R: Threads + Wait + Sync>(
 ///   many went out, of how many each.
 /// - `swapped PLACE PLACE` and `then BYTE`, what reading it answers with two class files in each other's place, or with
 ///   a byte more before the digest. The digest is made anew.
-pub fn answer<R: Threads + Wait + Sync>(
-    rt: &R,
-    alloc: Global,
-    files: &[Vec<u8>],
-    asked: &str,
-) -> Result<String, AllocError> {
-    let bytes = built(rt, alloc, files)?;
+pub fn ask<R: Threads + Wait + Sync>(rt: &R, answer: &mut Answer, files: &[Vec<u8>], asked: &str) {
+    let bytes = built(rt, answer, files);
     let (word, about) = asked.split_once(' ').unwrap_or((asked, ""));
     match word {
-        "length" => bytes.len().to_string(alloc),
-        "bytes" => part(alloc, &bytes, about),
-        "regions" => hexadecimal(alloc, after_files(files, &bytes)),
-        "orders" => orders(rt, alloc, files, &bytes),
-        "workers" => workers(rt, alloc, files, &bytes),
-        "whole" => reading(alloc, &bytes),
-        "cuts" => cuts(alloc, &bytes),
-        "changes" => changes(alloc, &bytes),
-        "swapped" => swapped(alloc, files, &bytes, about),
-        "then" => longer(alloc, &bytes, about),
-        "failing" => failing(alloc, &bytes),
-        _ => String::from_str(alloc, "no question"),
+        "orders" => compare_orders(rt, answer, files, &bytes),
+        "workers" => compare_workers(rt, answer, files, &bytes),
+        _ => of_image(answer, files, &bytes, word, about),
     }
 }
 
-fn part(alloc: Global, bytes: &[u8], about: &str) -> Result<String, AllocError> {
-    let (offset, length) = about.split_once(' ').unwrap_or((about, ""));
-    let rest = bytes.get(number(offset)..).unwrap_or(&[]);
-    hexadecimal(alloc, rest.get(..number(length)).unwrap_or(rest))
+fn of_image(answer: &mut Answer, files: &[Vec<u8>], bytes: &[u8], word: &str, about: &str) {
+    let (first, second) = about.split_once(' ').unwrap_or((about, ""));
+    match word {
+        "length" => answer.show(&bytes.len()),
+        "bytes" => answer.hexadecimal(part_of(bytes, first, second)),
+        "regions" => answer.hexadecimal(after_files(files, bytes)),
+        "whole" => add_reading(answer, bytes),
+        "cuts" => add_cuts(answer, bytes),
+        "changes" => add_changes(answer, bytes),
+        "swapped" => add_swapped(answer, files, bytes, number(first), number(second)),
+        "then" => add_longer(answer, bytes, number(about)),
+        "failing" => answer.made(failing(answer.alloc, bytes)),
+        _ => answer.word("no question"),
+    }
 }
 
 /// What stands before the digest.
@@ -98,106 +103,98 @@ fn after_files<'a>(files: &[Vec<u8>], bytes: &'a [u8]) -> &'a [u8] {
 }
 
 /// The files in the opposite order.
-fn reversed(alloc: Global, files: &[Vec<u8>]) -> Result<Vec<Vec<u8>>, AllocError> {
-    let mut others = Vec::new(alloc);
+fn reversed(answer: &mut Answer, files: &[Vec<u8>]) -> Vec<Vec<u8>> {
+    let mut others = Vec::new(answer.alloc);
     for file in files.iter().rev() {
-        others.push(file.clone()?)?;
+        programs::add_file(answer, &mut others, file);
     }
-    Ok(others)
+    others
 }
 
 /// `same` where 1, 2 and 64 workers give these bytes, in both orders of the files, or else the words that do not.
-fn workers<R: Threads + Wait + Sync>(
+fn compare_workers<R: Threads + Wait + Sync>(
     rt: &R,
-    alloc: Global,
+    answer: &mut Answer,
     files: &[Vec<u8>],
     bytes: &[u8],
-) -> Result<String, AllocError> {
-    let others = reversed(alloc, files)?;
-    for workers in ["1", "2", "64"] {
-        let words = format!(in alloc; "build --workers {workers} --out image")?;
-        let one = built_by(rt, alloc, &words, files)?;
-        let other = built_by(rt, alloc, &words, &others)?;
-        if one.as_slice() != bytes || other.as_slice() != bytes {
-            return Ok(words);
+) {
+    let others = reversed(answer, files);
+    for command in [
+        "build --workers 1 --out image",
+        "build --workers 2 --out image",
+        "build --workers 64 --out image",
+    ] {
+        if !is_built(rt, answer, command, files, bytes)
+            || !is_built(rt, answer, command, &others, bytes)
+        {
+            return answer.word(command);
         }
     }
-    String::from_str(alloc, "same")
+    answer.word("same")
 }
 
-fn orders<R: Threads + Wait + Sync>(
+fn compare_orders<R: Threads + Wait + Sync>(
     rt: &R,
-    alloc: Global,
+    answer: &mut Answer,
     files: &[Vec<u8>],
     bytes: &[u8],
-) -> Result<String, AllocError> {
-    let others = reversed(alloc, files)?;
-    let again = built(rt, alloc, &others)?;
-    let text = if again.as_slice() == bytes {
-        "same"
+) {
+    let others = reversed(answer, files);
+    if is_built(rt, answer, BUILD, &others, bytes) {
+        answer.word("same")
     } else {
-        "others"
-    };
-    String::from_str(alloc, text)
+        answer.word("others")
+    }
 }
 
 /// What reading an image answers: `read`, or a fault.
-fn reading(alloc: Global, bytes: &[u8]) -> Result<String, AllocError> {
-    match read(alloc, bytes) {
-        Ok(_) => String::from_str(alloc, "read"),
-        Err(fault) => format!(in alloc; "{fault:?}"),
+fn add_reading(answer: &mut Answer, bytes: &[u8]) {
+    match read(answer.alloc, bytes) {
+        Ok(_) => answer.word("read"),
+        Err(fault) => answer.debug(&fault),
     }
 }
 
-/// Answers in the order of their numbers, each with the first of the numbers in a row that have it.
-#[derive(Drop)]
-struct Answers {
-    alloc: Global,
-    text: String,
-    last: String,
-}
-
-impl Answers {
-    fn new(alloc: Global) -> Answers {
-        Answers {
-            alloc,
-            text: String::new(alloc),
-            last: String::new(alloc),
-        }
-    }
-
-    fn add(&mut self, number: usize, answer: String) -> Result<(), AllocError> {
-        if answer.as_str() == self.last.as_str() {
-            return Ok(());
-        }
-        if !self.text.is_empty() {
-            self.text.push_str(", ")?;
-        }
-        let told = format!(in self.alloc; "{number} {answer}")?;
-        self.text.push_str(&told)?;
-        self.last = answer;
-        Ok(())
+/// Adds what reading an image answers after its number, unless it is the last answer again.
+fn add_numbered(answer: &mut Answer, last: &mut String, number: usize, bytes: &[u8]) {
+    let mut reading = Answer::new(answer.alloc);
+    add_reading(&mut reading, bytes);
+    match reading.finish() {
+        Ok(text) => add_change(answer, last, number, text),
+        Err(_) => answer.refuse(),
     }
 }
 
-fn cuts(alloc: Global, bytes: &[u8]) -> Result<String, AllocError> {
-    let mut answers = Answers::new(alloc);
+fn add_change(answer: &mut Answer, last: &mut String, number: usize, text: String) {
+    if text.as_str() != last.as_str() {
+        answer.separate(", ");
+        answer.show(&number);
+        answer.word(" ");
+        answer.word(&text);
+        *last = text
+    }
+}
+
+fn add_cuts(answer: &mut Answer, bytes: &[u8]) {
+    let mut last = String::new(answer.alloc);
     for length in 0..bytes.len() {
-        let first = bytes.get(..length).unwrap_or(&[]);
-        answers.add(length, reading(alloc, first)?)?;
+        add_numbered(
+            answer,
+            &mut last,
+            length,
+            bytes.get(..length).unwrap_or(&[]),
+        );
     }
-    Ok(answers.text)
 }
 
-fn changes(alloc: Global, bytes: &[u8]) -> Result<String, AllocError> {
-    let mut answers = Answers::new(alloc);
-    let mut changed = Vec::from_slice(alloc, bytes)?;
+fn add_changes(answer: &mut Answer, bytes: &[u8]) {
+    let mut last = String::new(answer.alloc);
+    let mut changed = answer.copied(bytes);
     for (offset, byte) in bytes.iter().enumerate() {
         put(&mut changed, offset, byte ^ 0xFF);
-        answers.add(offset, reading(alloc, &changed)?)?;
+        add_numbered(answer, &mut last, offset, &changed);
         put(&mut changed, offset, *byte);
     }
-    Ok(answers.text)
 }
 
 fn put(bytes: &mut [u8], offset: usize, byte: u8) {
@@ -207,16 +204,8 @@ fn put(bytes: &mut [u8], offset: usize, byte: u8) {
 }
 
 /// With two class files in each other's place.
-fn swapped(
-    alloc: Global,
-    files: &[Vec<u8>],
-    bytes: &[u8],
-    about: &str,
-) -> Result<String, AllocError> {
-    let (first, second) = about.split_once(' ').unwrap_or((about, ""));
-    let first = number(first);
-    let second = number(second);
-    let mut other = Vec::from_slice(alloc, bytes.get(..HEADER).unwrap_or(&[]))?;
+fn add_swapped(answer: &mut Answer, files: &[Vec<u8>], bytes: &[u8], first: usize, second: usize) {
+    let mut other = answer.copied(bytes.get(..HEADER).unwrap_or(&[]));
     for place in 0..files.len() {
         let taken = if place == first {
             second
@@ -226,26 +215,31 @@ fn swapped(
             place
         };
         add_file(
+            answer,
             &mut other,
             files.get(taken).map_or(&[], |file| file.as_slice()),
-        )?;
+        );
     }
-    other.extend_from_slice(after_files(files, bytes))?;
-    add_digest(&mut other)?;
-    reading(alloc, &other)
+    answer.note(other.extend_from_slice(after_files(files, bytes)));
+    add_digested(answer, other)
 }
 
 /// Adds a class file after its length.
-fn add_file(bytes: &mut Vec<u8>, file: &[u8]) -> Result<(), AllocError> {
+fn add_file(answer: &mut Answer, bytes: &mut Vec<u8>, file: &[u8]) {
     let length = u32::try_from(file.len()).unwrap_or(u32::MAX);
-    bytes.extend_from_slice(&length.to_be_bytes())?;
-    bytes.extend_from_slice(file)
+    answer.note(bytes.extend_from_slice(&length.to_be_bytes()));
+    answer.note(bytes.extend_from_slice(file))
 }
 
 /// With a byte more before the digest.
-fn longer(alloc: Global, bytes: &[u8], about: &str) -> Result<String, AllocError> {
-    let mut other = Vec::from_slice(alloc, body(bytes))?;
-    other.push(u8::try_from(number(about)).unwrap_or(0))?;
-    add_digest(&mut other)?;
-    reading(alloc, &other)
+fn add_longer(answer: &mut Answer, bytes: &[u8], byte: usize) {
+    let mut other = answer.copied(body(bytes));
+    answer.note(other.extend_from_slice(&[u8::try_from(byte).unwrap_or(0)]));
+    add_digested(answer, other)
+}
+
+/// What reading bytes with their digest answers.
+fn add_digested(answer: &mut Answer, mut bytes: Vec<u8>) {
+    answer.note(add_digest(&mut bytes));
+    add_reading(answer, &bytes)
 }

@@ -1,81 +1,58 @@
 //! Runs from an image that is built of classes, written and read.
 
+use crate::answer::Answer;
 use crate::image_bytes::built;
-use crate::runs::{entries_of, name_of, shown_after};
-use crate::schedules::{scheduled_on, turned_on};
-use classfile::ClassFile;
+use crate::questions::Question;
+use crate::runs::{ask_world, entries_for};
 use image_reader::{read, world};
 use object_graph::Image;
-use std::alloc::{AllocError, Global};
 use std::sync::Wait;
 use std::thread::Threads;
 
 /// Asked are `turns 'CLASS' ..`, a run by turns of these entries, and `schedule 'CLASS' .. | THREAD STEPS ..`, steps by
 /// a schedule. The answers are as for a run of the classes.
-pub fn answer<R: Threads + Wait + Sync>(
-    rt: &R,
-    alloc: Global,
-    files: &[Vec<u8>],
-    asked: &str,
-) -> Result<String, AllocError> {
-    let bytes = built(rt, alloc, files)?;
-    match read(alloc, &bytes) {
-        Ok(image) => of_image(alloc, &image, asked),
-        Err(fault) => format!(in alloc; "{fault:?}"),
-    }
-}
-
-fn of_image(alloc: Global, image: &Image, asked: &str) -> Result<String, AllocError> {
+pub fn ask<R: Threads + Wait + Sync>(rt: &R, answer: &mut Answer, files: &[Vec<u8>], asked: &str) {
     let (word, about) = asked.split_once(' ').unwrap_or((asked, ""));
-    let (list, schedule) = about.split_once(" | ").unwrap_or((about, ""));
-    let entries = entries_of(alloc, list)?;
-    match world(alloc, image, &entries) {
-        Ok(start) if word == "turns" => turned_on(alloc, image.program(), start),
-        Ok(mut start) => scheduled_on(alloc, image.program(), &mut start, schedule),
-        Err(fault) => fault.to_string(alloc),
-    }
+    let _count = run(rt, answer, files, &Question::plain(word, about));
 }
 
-/// What a run from an image of classes shows.
-#[derive(Drop)]
-pub struct ShownFromImage {
-    /// What it prints, and then how its thread stands, or why there is none.
-    pub text: String,
-    /// How many classes are initialized in the image.
-    pub initialized: u32,
-}
-
-/// What a run by turns from an image of classes shows.
-pub fn shown<R: Threads + Wait + Sync>(
+/// Adds what a run by turns from an image shows. Answers how many classes are initialized in the image.
+pub fn show<R: Threads + Wait + Sync>(
     rt: &R,
-    alloc: Global,
-    classes: &[ClassFile],
+    answer: &mut Answer,
+    files: &[Vec<u8>],
     entry: &str,
-) -> Result<ShownFromImage, AllocError> {
-    let mut files = Vec::new(alloc);
-    for class in classes {
-        files.push(classfile::write(alloc, class)?)?;
-    }
-    let bytes = built(rt, alloc, &files)?;
-    match read(alloc, &bytes) {
-        Ok(image) => shown_from(alloc, &image, entry),
-        Err(fault) => Ok(ShownFromImage {
-            text: format!(in alloc; "{fault:?}")?,
-            initialized: 0,
-        }),
+) -> u32 {
+    run(rt, answer, files, &Question::plain("show", entry))
+}
+
+fn run<R: Threads + Wait + Sync>(
+    rt: &R,
+    answer: &mut Answer,
+    files: &[Vec<u8>],
+    question: &Question<'_>,
+) -> u32 {
+    let bytes = built(rt, answer, files);
+    match read(answer.alloc, &bytes) {
+        Ok(image) => {
+            run_from(answer, &image, question);
+            initialized_in(&image)
+        }
+        Err(fault) => {
+            answer.debug(&fault);
+            0
+        }
     }
 }
 
-fn shown_from(alloc: Global, image: &Image, entry: &str) -> Result<ShownFromImage, AllocError> {
-    let entries = [name_of(alloc, entry)?];
-    let text = match world(alloc, image, &entries) {
-        Ok(start) => shown_after(alloc, image.program(), start)?,
-        Err(fault) => fault.to_string(alloc)?,
+fn run_from(answer: &mut Answer, image: &Image, question: &Question<'_>) {
+    let Ok(entries) = entries_for(answer.alloc, question) else {
+        return answer.refuse();
     };
-    Ok(ShownFromImage {
-        text,
-        initialized: initialized_in(image),
-    })
+    match world(answer.alloc, image, &entries) {
+        Ok(start) => ask_world(answer, image.program(), question, start),
+        Err(fault) => answer.show(&fault),
+    }
 }
 
 /// How many classes are initialized in an image.

@@ -15,6 +15,7 @@
 //! are.
 #![tactic(auto)]
 
+mod answer;
 mod class_bytes;
 mod class_files;
 mod codes;
@@ -41,10 +42,10 @@ mod threads;
 mod uses;
 mod verdicts;
 
+use answer::Answer;
 use cases::{Subject, run_cases};
 use classfile::ClassFile;
-use image_runs::ShownFromImage;
-use rewriting::{add_class, rewritten};
+use rewriting::{add_class, rewritten, written};
 use std::alloc::{AllocError, Global};
 use std::io::{self, Write};
 use std::process::ExitCode;
@@ -83,16 +84,24 @@ impl Subject for About {
         given: &str,
         asked: &str,
     ) -> Result<String, AllocError> {
+        let mut answer = Answer::new(alloc);
+        self.ask(rt, &mut answer, given, asked);
+        answer.finish()
+    }
+}
+
+impl About {
+    fn ask<R: Threads + Wait + Sync>(&self, rt: &R, answer: &mut Answer, given: &str, asked: &str) {
         match self {
-            About::Codes => codes::answer(alloc, given, asked),
-            About::ClassFiles => class_files::answer(alloc, given, asked),
-            About::ClassBytes => class_bytes::answer(alloc, given, asked),
-            About::Commands => commands::answer(rt, alloc, given, asked),
-            About::Graphs => graphs::answer(alloc, given, asked),
-            About::Images => images::answer(rt, alloc, given, asked),
-            About::Options => patterns::answer(alloc, given, asked),
-            About::Programs => programs::answer(alloc, given, asked),
-            About::Threads => threads::answer(rt, alloc, given, asked),
+            About::Codes => codes::ask(answer, given, asked),
+            About::ClassFiles => class_files::ask(answer, given, asked),
+            About::ClassBytes => class_bytes::ask(answer, given, asked),
+            About::Commands => commands::ask(rt, answer, given, asked),
+            About::Graphs => graphs::ask(answer, given, asked),
+            About::Images => images::ask(rt, answer, given, asked),
+            About::Options => patterns::ask(answer, given, asked),
+            About::Programs => programs::ask(answer, given, asked),
+            About::Threads => threads::ask(rt, answer, given, asked),
         }
     }
 }
@@ -130,26 +139,55 @@ where
     R: rt::Files + AllocGlobal + Threads + Wait + Sync,
     W: Write,
 {
-    if let Some(("report", file)) = word.split_once('=') {
-        let wanted = fs::read_to_string(rt, file)?;
-        return do_report(rt, out, file, classes, &wanted);
-    }
-    if let Some((entry, file)) = word.split_once('=') {
-        let since = mem::replace(classes, Vec::new(rt.alloc()));
-        let wanted = fs::read_to_string(rt, file)?;
-        return do_run(rt, out, file, since, entry, &wanted);
+    if let Some((call, file)) = word.split_once('=') {
+        return match fs::read_to_string(rt, file) {
+            Ok(wanted) => do_call(rt, out, file, classes, call, &wanted),
+            Err(error) => Err(error),
+        };
     }
     if word.ends_with('/') {
         let since = mem::replace(classes, Vec::new(rt.alloc()));
         return do_folder(rt.alloc(), out, word, since);
     }
     if word.ends_with(".class") {
-        let bytes = fs::read(rt, word)?;
-        return do_class_file(rt.alloc(), out, word, &bytes, classes);
+        return match fs::read(rt, word) {
+            Ok(bytes) => do_class_file(rt.alloc(), out, word, &bytes, classes),
+            Err(error) => Err(error),
+        };
     }
-    let text = fs::read_to_string(rt, word)?;
-    let tally = run_cases(rt, rt.alloc(), out, &subject_of(word), word, &text)?;
-    Ok(tally.others == 0)
+    match fs::read_to_string(rt, word) {
+        Ok(text) => do_cases(rt, out, word, &text),
+        Err(error) => Err(error),
+    }
+}
+
+/// Asks the questions of a file.
+fn do_cases<R: AllocGlobal + Threads + Wait + Sync, W: Write>(
+    rt: &R,
+    out: &mut W,
+    name: &str,
+    text: &str,
+) -> io::Result<bool> {
+    match run_cases(rt, rt.alloc(), out, &subject_of(name), name, text) {
+        Ok(tally) => Ok(tally.others == 0),
+        Err(error) => Err(error),
+    }
+}
+
+/// Writes what comes of a word that names a file, and answers whether it is as it is wanted.
+fn write_line<W: Write>(
+    out: &mut W,
+    name: &str,
+    answer: Answer,
+    is_wanted: bool,
+) -> io::Result<bool> {
+    match answer.finish() {
+        Ok(text) => match writeln!(out, "{name}: {text}") {
+            Ok(()) => Ok(is_wanted),
+            Err(error) => Err(error),
+        },
+        Err(error) => Err(io::Error::from(error)),
+    }
 }
 
 /// Writes what comes of a class file that is read and written back, and adds its class to others.
@@ -160,10 +198,11 @@ fn do_class_file<W: Write>(
     bytes: &[u8],
     classes: &mut Vec<ClassFile>,
 ) -> io::Result<bool> {
-    add_class(alloc, classes, bytes)?;
-    let text = rewritten(alloc, bytes)?;
-    writeln!(out, "{name}: {text}")?;
-    Ok(text.as_str() == "same")
+    let mut answer = Answer::new(alloc);
+    add_class(&mut answer, classes, bytes);
+    answer.made(rewritten(alloc, bytes));
+    let is_same = answer.as_str() == "same";
+    write_line(out, name, answer, is_same)
 }
 
 /// Writes what comes of class files that are linked.
@@ -173,58 +212,93 @@ fn do_folder<W: Write>(
     name: &str,
     classes: Vec<ClassFile>,
 ) -> io::Result<bool> {
-    let count = classes.len();
-    let text = programs::linked(alloc, classes)?;
-    writeln!(out, "{name}: {count} {text}")?;
-    Ok(text.as_str() == "linked")
+    let mut answer = Answer::new(alloc);
+    answer.show(&classes.len());
+    answer.word(" ");
+    let mut linked = Answer::new(alloc);
+    programs::link_all(&mut linked, classes);
+    let is_linked = linked.as_str() == "linked";
+    answer.made(linked.finish());
+    write_line(out, name, answer, is_linked)
 }
 
-/// Writes whether runs of class files and of their image show what is wanted, and what they show where they do not.
-fn do_run<R: AllocGlobal + Threads + Wait + Sync, W: Write>(
+/// Writes what comes of a build or of runs of class files.
+fn do_call<R: AllocGlobal + Threads + Wait + Sync, W: Write>(
     rt: &R,
     out: &mut W,
     name: &str,
+    classes: &mut Vec<ClassFile>,
+    call: &str,
+    wanted: &str,
+) -> io::Result<bool> {
+    let mut answer = Answer::new(rt.alloc());
+    let is_wanted = match call {
+        "report" => is_reported(rt, &mut answer, classes, wanted),
+        entry => {
+            let since = mem::replace(classes, Vec::new(rt.alloc()));
+            is_run(rt, &mut answer, since, entry, wanted)
+        }
+    };
+    write_line(out, name, answer, is_wanted)
+}
+
+/// Whether runs of class files and of their image show what is wanted. Adds what they show where they do not.
+fn is_run<R: Threads + Wait + Sync>(
+    rt: &R,
+    answer: &mut Answer,
     classes: Vec<ClassFile>,
     entry: &str,
     wanted: &str,
-) -> io::Result<bool> {
-    let alloc = rt.alloc();
+) -> bool {
     let count = classes.len();
-    let from_image = image_runs::shown(rt, alloc, &classes, entry)?;
-    let shown = programs::shown(alloc, classes, entry)?;
-    if shown.as_str() != wanted {
-        writeln!(out, "{name}: {shown}")?;
-        return Ok(false);
+    let files = written(answer, &classes);
+    let mut shown = Answer::new(answer.alloc);
+    programs::show(&mut shown, classes, entry);
+    if !is_wanted(answer, "", shown, wanted) {
+        return false;
     }
-    let ShownFromImage { text, initialized } = from_image;
-    if text.as_str() != wanted {
-        writeln!(out, "{name}: from an image: {text}")?;
-        return Ok(false);
+    let mut shown = Answer::new(answer.alloc);
+    let initialized = image_runs::show(rt, &mut shown, &files, entry);
+    if !is_wanted(answer, "from an image: ", shown, wanted) {
+        return false;
     }
-    writeln!(
-        out,
-        "{name}: {count} linked, shown as wanted, as from an image with {initialized} initialized"
-    )?;
-    Ok(true)
+    answer.show(&count);
+    answer.word(" linked, shown as wanted, as from an image with ");
+    answer.show(&initialized);
+    answer.word(" initialized");
+    true
 }
 
-/// Writes whether the report of a build of class files is what is wanted, and the report where it is not.
-fn do_report<R: AllocGlobal + Threads + Wait + Sync, W: Write>(
+/// Whether the report of a build of class files is what is wanted. Adds the report where it is not.
+fn is_reported<R: Threads + Wait + Sync>(
     rt: &R,
-    out: &mut W,
-    name: &str,
+    answer: &mut Answer,
     classes: &[ClassFile],
     wanted: &str,
-) -> io::Result<bool> {
-    let alloc = rt.alloc();
-    let count = classes.len();
-    let text = reports::reported(rt, alloc, classes)?;
-    if text.as_str() == wanted {
-        writeln!(out, "{name}: {count} reported as wanted")?;
-        return Ok(true);
+) -> bool {
+    let files = written(answer, classes);
+    let mut report = Answer::new(answer.alloc);
+    reports::add_report(rt, &mut report, &files);
+    if !is_wanted(answer, "", report, wanted) {
+        return false;
     }
-    writeln!(out, "{name}: {text}")?;
-    Ok(false)
+    answer.show(&classes.len());
+    answer.word(" reported as wanted");
+    true
+}
+
+/// Whether a text is what is wanted. It is added where it is not, after some words.
+fn is_wanted(answer: &mut Answer, before: &str, text: Answer, wanted: &str) -> bool {
+    let Ok(text) = text.finish() else {
+        answer.refuse();
+        return false;
+    };
+    if text.as_str() == wanted {
+        return true;
+    }
+    answer.word(before);
+    answer.word(&text);
+    false
 }
 
 /// Does the words of the command line in order, and answers whether all is as it is wanted.
@@ -236,7 +310,10 @@ where
     let mut all_well = true;
     let mut classes = Vec::new(rt.alloc());
     for word in env::args(rt)?.skip(1) {
-        all_well &= do_word(rt, out, &word, &mut classes)?;
+        match do_word(rt, out, &word, &mut classes) {
+            Ok(is_well) => all_well &= is_well,
+            Err(error) => return Err(error),
+        }
     }
     Ok(all_well)
 }

@@ -1,148 +1,143 @@
 //! What a linked program answers of its classes and their members.
 
+use crate::answer::Answer;
 use built_in::class_id::{ArrayType, BuiltIn, ClassId, ElementType};
 use classfile::ClassName;
 use program::runtime_constant::RuntimeConstant;
 use program::{Field, Method, Program, Unresolved};
-use std::alloc::{AllocError, Global};
 
 /// The number of the given class of a name.
-pub fn number_of(alloc: Global, program: &Program, class: &str) -> Result<Option<u32>, AllocError> {
-    let name = ClassName::from_text(alloc, class)?;
-    program.number_of(alloc, &name)
+pub fn number_of(answer: &mut Answer, program: &Program, class: &str) -> Option<u32> {
+    let Ok(name) = ClassName::from_text(answer.alloc, class) else {
+        answer.refuse();
+        return None;
+    };
+    match program.number_of(answer.alloc, &name) {
+        Ok(number) => number,
+        Err(_) => {
+            answer.refuse();
+            None
+        }
+    }
+}
+
+/// The number of the given class of a name; that there is none is the answer then.
+pub fn given(answer: &mut Answer, program: &Program, class: &str) -> Option<u32> {
+    let number = number_of(answer, program, class);
+    if number.is_none() {
+        answer.word("no given class");
+    }
+    number
 }
 
 /// The names of all classes, by their numbers.
-pub fn all_names(alloc: Global, program: &Program) -> Result<String, AllocError> {
-    let mut text = String::new(alloc);
+pub fn add_all(answer: &mut Answer, program: &Program) {
     for number in 0..u32::try_from(program.class_count()).unwrap_or(0) {
-        add_name(alloc, &mut text, program, number)?;
+        add_name(answer, program, number);
     }
-    or_nothing(text)
+    answer.or_nothing()
 }
 
 /// The given superclasses of a class, nearest first.
-pub fn superclasses(alloc: Global, program: &Program, class: &str) -> Result<String, AllocError> {
-    let Some(class) = number_of(alloc, program, class)? else {
-        return no_class(alloc);
-    };
-    let mut text = String::new(alloc);
-    for number in program.superclasses(class) {
-        add_name(alloc, &mut text, program, number)?;
+pub fn add_superclasses(answer: &mut Answer, program: &Program, class: &str) {
+    if let Some(class) = given(answer, program, class) {
+        for number in program.superclasses(class) {
+            add_name(answer, program, number);
+        }
+        answer.or_nothing()
     }
-    or_nothing(text)
 }
 
 /// What is initialized before a class.
-pub fn before(alloc: Global, program: &Program, class: &str) -> Result<String, AllocError> {
-    let Some(class) = number_of(alloc, program, class)? else {
-        return no_class(alloc);
-    };
-    let mut text = String::new(alloc);
-    for number in program.init_order(class) {
-        add_name(alloc, &mut text, program, *number)?;
+pub fn add_before(answer: &mut Answer, program: &Program, class: &str) {
+    if let Some(class) = given(answer, program, class) {
+        add_names(answer, program, program.init_order(class))
     }
-    or_nothing(text)
 }
 
-pub fn no_class(alloc: Global) -> Result<String, AllocError> {
-    String::from_str(alloc, "no given class")
-}
-
-/// A text, or `nothing` in the place of an empty one.
-pub fn or_nothing(mut text: String) -> Result<String, AllocError> {
-    if text.is_empty() {
-        text.push_str("nothing")?;
+/// Adds the names of classes, or `nothing`.
+pub fn add_names(answer: &mut Answer, program: &Program, numbers: &[u32]) {
+    for number in numbers {
+        add_name(answer, program, *number);
     }
-    Ok(text)
+    answer.or_nothing()
 }
 
 /// Adds the name of a class after other names.
-pub fn add_name(
-    alloc: Global,
-    text: &mut String,
-    program: &Program,
-    number: u32,
-) -> Result<(), AllocError> {
-    if !text.is_empty() {
-        text.push(' ')?;
-    }
-    let name = program.class_text(alloc, ClassId::Given(number))?;
-    text.push_str(name.as_str())
+pub fn add_name(answer: &mut Answer, program: &Program, number: u32) {
+    answer.separate(" ");
+    add_class(answer, program, number)
+}
+
+/// Adds the name of a class.
+pub fn add_class(answer: &mut Answer, program: &Program, number: u32) {
+    answer.made(program.class_text(answer.alloc, ClassId::Given(number)))
 }
 
 /// The field that an index of the pool of `Asking` resolves to.
-pub fn resolved_field(alloc: Global, program: &Program, index: u16) -> Result<String, AllocError> {
-    let Some(asking) = number_of(alloc, program, "Asking")? else {
-        return no_class(alloc);
-    };
-    match program.resolve_field(asking, index) {
-        Ok(Field::Given { class, index }) => member_text(alloc, program, class, index),
-        Ok(Field::Out) => String::from_str(alloc, "System.out"),
-        Err(why) => unresolved_text(alloc, why),
+pub fn add_field(answer: &mut Answer, program: &Program, index: u16) {
+    if let Some(asking) = given(answer, program, "Asking") {
+        match program.resolve_field(asking, index) {
+            Ok(Field::Given { class, index }) => add_member(answer, program, class, index),
+            Ok(Field::Out) => answer.word("System.out"),
+            Err(why) => answer.debug(&why),
+        }
     }
 }
 
 /// The method that an index of the pool of `Asking` resolves to.
-pub fn resolved_method(alloc: Global, program: &Program, index: u16) -> Result<String, AllocError> {
-    match resolution(alloc, program, index)? {
-        Ok(method) => method_text(alloc, program, method),
-        Err(why) => unresolved_text(alloc, why),
+pub fn add_resolved(answer: &mut Answer, program: &Program, index: u16) {
+    match resolved(answer, program, index) {
+        Ok(method) => add_found(answer, program, Some(method)),
+        Err(why) => answer.debug(&why),
     }
 }
 
-fn resolution(
-    alloc: Global,
-    program: &Program,
-    index: u16,
-) -> Result<Result<Method, Unresolved>, AllocError> {
-    match number_of(alloc, program, "Asking")? {
-        Some(asking) => Ok(program.resolve_method(asking, index)),
-        None => Ok(Err(Unresolved::NoReference)),
+fn resolved(answer: &mut Answer, program: &Program, index: u16) -> Result<Method, Unresolved> {
+    match number_of(answer, program, "Asking") {
+        Some(asking) => program.resolve_method(asking, index),
+        None => Err(Unresolved::NoReference),
     }
 }
 
 /// The method that is run on an object of a class.
-pub fn selected(
-    alloc: Global,
-    program: &Program,
-    class: &str,
-    index: u16,
-) -> Result<String, AllocError> {
-    let Some(class) = class_id(alloc, program, class)? else {
-        return no_class(alloc);
+pub fn add_selected(answer: &mut Answer, program: &Program, class: &str, index: u16) {
+    let Some(class) = class_id(answer, program, class) else {
+        return answer.word("no given class");
     };
-    match resolution(alloc, program, index)? {
-        Ok(method) => found_text(alloc, program, program.select(class, method)),
-        Err(why) => unresolved_text(alloc, why),
+    match resolved(answer, program, index) {
+        Ok(method) => add_found(answer, program, program.select(class, method)),
+        Err(why) => answer.debug(&why),
     }
 }
 
 /// The method that invokespecial runs in a class.
-pub fn special(
-    alloc: Global,
-    program: &Program,
-    class: &str,
-    index: u16,
-) -> Result<String, AllocError> {
-    let Some(class) = number_of(alloc, program, class)? else {
-        return no_class(alloc);
-    };
-    let asking = number_of(alloc, program, "Asking")?;
-    let resolved = resolution(alloc, program, index)?;
-    match (resolved, named_class(program, asking, index)) {
-        (Ok(method), Some(named)) => {
-            let start = program.special_start(class, named, method);
-            found_text(alloc, program, program.special(start, method))
+pub fn add_special(answer: &mut Answer, program: &Program, class: &str, index: u16) {
+    if let Some(class) = given(answer, program, class) {
+        match resolved(answer, program, index) {
+            Ok(method) => add_special_of(answer, program, class, method, index),
+            Err(why) => answer.debug(&why),
         }
-        (Ok(_), None) => no_class(alloc),
-        (Err(why), _) => unresolved_text(alloc, why),
+    }
+}
+
+fn add_special_of(answer: &mut Answer, program: &Program, class: u32, method: Method, index: u16) {
+    let asking = number_of(answer, program, "Asking");
+    match named_class(program, asking, index) {
+        Some(named) => {
+            let start = program.special_start(class, named, method);
+            add_found(answer, program, program.special(start, method))
+        }
+        None => answer.word("no given class"),
     }
 }
 
 /// The class that a method reference names.
 fn named_class(program: &Program, asking: Option<u32>, index: u16) -> Option<ClassId> {
-    match program.constant(asking?, index) {
+    let Some(asking) = asking else {
+        return None;
+    };
+    match program.constant(asking, index) {
         Some(RuntimeConstant::Method(reference) | RuntimeConstant::InterfaceMethod(reference)) => {
             reference.class
         }
@@ -151,52 +146,34 @@ fn named_class(program: &Program, asking: Option<u32>, index: u16) -> Option<Cla
 }
 
 /// The class of a name: an array of `int`, a built-in class, or a given one.
-fn class_id(alloc: Global, program: &Program, name: &str) -> Result<Option<ClassId>, AllocError> {
+fn class_id(answer: &mut Answer, program: &Program, name: &str) -> Option<ClassId> {
     if name.starts_with('[') {
         let array = ArrayType {
             dimensions: 1,
             element: ElementType::Int,
         };
-        return Ok(Some(ClassId::Array(array)));
+        return Some(ClassId::Array(array));
     }
-    if let Some(class) = BuiltIn::named(name.as_bytes()) {
-        return Ok(Some(ClassId::BuiltIn(class)));
-    }
-    match number_of(alloc, program, name)? {
-        Some(number) => Ok(Some(ClassId::Given(number))),
-        None => Ok(None),
+    match BuiltIn::named(name.as_bytes()) {
+        Some(class) => Some(ClassId::BuiltIn(class)),
+        None => match number_of(answer, program, name) {
+            Some(number) => Some(ClassId::Given(number)),
+            None => None,
+        },
     }
 }
 
-fn found_text(
-    alloc: Global,
-    program: &Program,
-    found: Option<Method>,
-) -> Result<String, AllocError> {
+fn add_found(answer: &mut Answer, program: &Program, found: Option<Method>) {
     match found {
-        Some(method) => method_text(alloc, program, method),
-        None => String::from_str(alloc, "nothing"),
+        Some(Method::Given { class, index }) => add_member(answer, program, class, index),
+        Some(Method::BuiltIn(member)) => answer.debug(&member),
+        None => answer.word("nothing"),
     }
 }
 
-fn method_text(alloc: Global, program: &Program, method: Method) -> Result<String, AllocError> {
-    match method {
-        Method::Given { class, index } => member_text(alloc, program, class, index),
-        Method::BuiltIn(member) => format!(in alloc; "{member:?}"),
-    }
-}
-
-/// A member by its class and its place there.
-pub fn member_text(
-    alloc: Global,
-    program: &Program,
-    class: u32,
-    index: u16,
-) -> Result<String, AllocError> {
-    let class = program.class_text(alloc, ClassId::Given(class))?;
-    format!(in alloc; "{class} {index}")
-}
-
-fn unresolved_text(alloc: Global, why: Unresolved) -> Result<String, AllocError> {
-    format!(in alloc; "{why:?}")
+/// Adds a member by its class and its place there.
+pub fn add_member(answer: &mut Answer, program: &Program, class: u32, index: u16) {
+    add_class(answer, program, class);
+    answer.word(" ");
+    answer.show(&index)
 }

@@ -1,59 +1,90 @@
 //! Classes, what linking them answers, and what is seen of their runs.
 
-use crate::questions::{Question, Verb};
-use crate::{members, runs, schedules, tables, uses};
-use cases::{add_class_files, filled};
+use crate::answer::Answer;
+use crate::class_bytes::files_of;
+use crate::questions::Question;
+use crate::{members, runs, tables, uses};
+use cases::filled;
 use classfile::{ClassFault, ClassFile, read};
 use program::{Program, link};
-use std::alloc::{AllocError, Global};
+use std::alloc::Global;
 
 /// Given are classes. The order of their files makes no difference, so both ends are tried.
 ///
 /// Where they have a `{}`, what is asked stands there, and the answer is that of `run T 10000`. A fault of reading or
 /// of linking is the answer to every question.
-pub fn answer(alloc: Global, given: &str, asked: &str) -> Result<String, AllocError> {
+///
+/// Asked are of runs:
+///
+/// - `run CLASS LIMIT`, a run by turns, as the number of its steps and what is seen of it; `show CLASS`, what a whole
+///   run prints, and then how it ends; `step CLASS COUNT`, single steps, what the last gave, and then a run by turns.
+/// - `start 'CLASS' ..`, whether a run may start with these entries (`65*'M'` is 65 of them); `turns 'CLASS' ..`, a run
+///   by turns of them; `schedule 'CLASS' .. | THREAD STEPS ..`, steps by a schedule.
+///
+/// Of classes:
+///
+/// - `link`, whether they make a program; `numbers`, the names of all, by their numbers; `strings`, the strings.
+/// - `supers CLASS`, its given superclasses, nearest first; `init CLASS`, what is initialized before it; `methods
+///   CLASS`, how its methods are implemented, with what they take and return and their handlers; `initializer CLASS`,
+///   the place of its class initialization method; `statics CLASS`, what its static fields get before that runs.
+/// - `field REFERENCE` and `method REFERENCE`, what a reference of one more class resolves to; `constant ENTRY`, what
+///   an entry of the pool of that class stands for; `select CLASS REFERENCE`, which method a call of that method runs
+///   on an object of the class; `special CLASS REFERENCE`, which one invokespecial of it runs in the class.
+/// - `runs CLASS`, `uses CLASS` and `marks CLASS` (`src/uses.rt`).
+pub fn ask(answer: &mut Answer, given: &str, asked: &str) {
     if given.contains("{}") {
-        let text = filled(alloc, given, asked)?;
-        return answer_of(alloc, &text, "run T 10000");
+        return match filled(answer.alloc, given, asked) {
+            Ok(text) => ask_of(answer, &text, "run T 10000"),
+            Err(_) => answer.refuse(),
+        };
     }
-    answer_of(alloc, given, asked)
+    ask_of(answer, given, asked)
 }
 
-fn answer_of(alloc: Global, given: &str, asked: &str) -> Result<String, AllocError> {
-    let mut files = Vec::new(alloc);
-    let misspelled = add_class_files(alloc, &mut files, given)?;
-    let question = Question::of(alloc, asked)?;
-    if !misspelled.is_empty() {
-        return format!(in alloc; "misspelled{misspelled}");
+fn ask_of(answer: &mut Answer, given: &str, asked: &str) {
+    if let Some(mut files) = files_of(answer, given) {
+        match Question::of(answer.alloc, asked) {
+            Ok(question) => ask_both_ways(answer, &mut files, &question),
+            Err(_) => answer.refuse(),
+        }
     }
-    both_ways(alloc, &mut files, &question)
 }
 
-fn both_ways(
-    alloc: Global,
-    files: &mut Vec<Vec<u8>>,
-    question: &Question<'_>,
-) -> Result<String, AllocError> {
+fn ask_both_ways(answer: &mut Answer, files: &mut Vec<Vec<u8>>, question: &Question<'_>) {
     if let Some(asking) = &question.asking {
-        files.push(asking.clone()?)?;
+        add_file(answer, files, asking);
     }
-    let found = of_files(alloc, files, question)?;
+    of_files(answer, files, question);
     files.reverse();
-    let again = of_files(alloc, files, question)?;
-    if found.as_str() == again.as_str() {
-        return Ok(found);
-    }
-    format!(in alloc; "{found}, but {again} in another order")
+    let mut again = Answer::new(answer.alloc);
+    of_files(&mut again, files, question);
+    hold_against(answer, again)
 }
 
-fn of_files(
-    alloc: Global,
-    files: &[Vec<u8>],
-    question: &Question<'_>,
-) -> Result<String, AllocError> {
-    match classes_of(alloc, files) {
-        Ok(classes) => of_classes(alloc, classes, question),
-        Err(fault) => fault.to_string(alloc),
+/// Adds a file after others.
+pub fn add_file(answer: &mut Answer, files: &mut Vec<Vec<u8>>, bytes: &[u8]) {
+    let file = answer.copied(bytes);
+    if files.push(file).is_err() {
+        answer.refuse()
+    }
+}
+
+/// Adds what was answered to the same question in another order, where it is something else.
+fn hold_against(answer: &mut Answer, again: Answer) {
+    let Ok(again) = again.finish() else {
+        return answer.refuse();
+    };
+    if again.as_str() != answer.as_str() {
+        answer.word(", but ");
+        answer.word(&again);
+        answer.word(" in another order")
+    }
+}
+
+fn of_files(answer: &mut Answer, files: &[Vec<u8>], question: &Question<'_>) {
+    match classes_of(answer.alloc, files) {
+        Ok(classes) => of_classes(answer, classes, question),
+        Err(fault) => answer.show(&fault),
     }
 }
 
@@ -61,85 +92,68 @@ fn of_files(
 pub fn classes_of(alloc: Global, files: &[Vec<u8>]) -> Result<Vec<ClassFile>, ClassFault> {
     let mut classes = Vec::new(alloc);
     for bytes in files {
-        classes.push(read(alloc, bytes)?)?;
+        let class = match read(alloc, bytes) {
+            Ok(class) => class,
+            Err(fault) => return Err(fault),
+        };
+        if classes.push(class).is_err() {
+            return Err(ClassFault::Memory);
+        }
     }
     Ok(classes)
 }
 
 /// `linked` where classes make a program, or why they make none.
-pub fn linked(alloc: Global, classes: Vec<ClassFile>) -> Result<String, AllocError> {
-    let question = Question::plain(Verb::Link, "");
-    of_classes(alloc, classes, &question)
+pub fn link_all(answer: &mut Answer, classes: Vec<ClassFile>) {
+    of_classes(answer, classes, &Question::plain("link", ""))
 }
 
 /// What a run of classes shows, or why they make no program.
-pub fn shown(alloc: Global, classes: Vec<ClassFile>, entry: &str) -> Result<String, AllocError> {
-    let question = Question::plain(Verb::Show, entry);
-    of_classes(alloc, classes, &question)
+pub fn show(answer: &mut Answer, classes: Vec<ClassFile>, entry: &str) {
+    of_classes(answer, classes, &Question::plain("show", entry))
 }
 
-fn of_classes(
-    alloc: Global,
-    classes: Vec<ClassFile>,
-    question: &Question<'_>,
-) -> Result<String, AllocError> {
-    match link(alloc, classes) {
-        Ok(program) => of_program(alloc, &program, question),
-        Err(fault) => fault.to_string(alloc),
+fn of_classes(answer: &mut Answer, classes: Vec<ClassFile>, question: &Question<'_>) {
+    match link(answer.alloc, classes) {
+        Ok(program) => of_program(answer, &program, question),
+        Err(fault) => answer.show(&fault),
     }
 }
 
-fn of_program(
-    alloc: Global,
-    program: &Program,
-    question: &Question<'_>,
-) -> Result<String, AllocError> {
-    match question.verb {
-        Verb::Start => runs::started(alloc, program, question.class),
-        Verb::Run => runs::run(alloc, program, question.class, question.count),
-        Verb::Show => runs::shown(alloc, program, question.class),
-        Verb::Step => runs::steps(alloc, program, question.class, question.count),
-        Verb::Turns => schedules::turned(alloc, program, question.class),
-        Verb::Schedule => schedules::scheduled(alloc, program, question.class),
-        _ => of_classes_alone(alloc, program, question),
+fn of_program(answer: &mut Answer, program: &Program, question: &Question<'_>) {
+    match question.word {
+        "run" | "show" | "step" | "start" | "turns" | "schedule" => {
+            runs::ask(answer, program, question)
+        }
+        _ => of_members(answer, program, question),
     }
 }
 
-fn of_classes_alone(
-    alloc: Global,
-    program: &Program,
-    question: &Question<'_>,
-) -> Result<String, AllocError> {
+fn of_members(answer: &mut Answer, program: &Program, question: &Question<'_>) {
     let class = question.class;
     let index = question.index;
-    match question.verb {
-        Verb::Link => String::from_str(alloc, "linked"),
-        Verb::Numbers => members::all_names(alloc, program),
-        Verb::Supers => members::superclasses(alloc, program, class),
-        Verb::Init => members::before(alloc, program, class),
-        Verb::Field => members::resolved_field(alloc, program, index),
-        Verb::Method => members::resolved_method(alloc, program, index),
-        Verb::Select => members::selected(alloc, program, class, index),
-        Verb::Special => members::special(alloc, program, class, index),
-        _ => of_tables(alloc, program, question),
+    match question.word {
+        "link" => answer.word("linked"),
+        "numbers" => members::add_all(answer, program),
+        "supers" => members::add_superclasses(answer, program, class),
+        "init" => members::add_before(answer, program, class),
+        "field" => members::add_field(answer, program, index),
+        "method" => members::add_resolved(answer, program, index),
+        "select" => members::add_selected(answer, program, class, index),
+        "special" => members::add_special(answer, program, class, index),
+        _ => of_tables(answer, program, question),
     }
 }
 
-fn of_tables(
-    alloc: Global,
-    program: &Program,
-    question: &Question<'_>,
-) -> Result<String, AllocError> {
+fn of_tables(answer: &mut Answer, program: &Program, question: &Question<'_>) {
     let class = question.class;
-    match question.verb {
-        Verb::Strings => tables::strings(alloc, program),
-        Verb::Constant => tables::constant(alloc, program, question.index),
-        Verb::Methods => tables::methods(alloc, program, class),
-        Verb::Initializer => tables::initializer(alloc, program, class),
-        Verb::Statics => tables::statics(alloc, program, class),
-        Verb::Runs => uses::runs(alloc, program, class),
-        Verb::Uses => uses::uses(alloc, program, class),
-        Verb::Marks => uses::marks(alloc, program, class),
-        _ => String::from_str(alloc, "no question"),
+    match question.word {
+        "strings" => tables::add_strings(answer, program),
+        "constant" => tables::add_constant(answer, program, question.index),
+        "methods" => tables::add_methods(answer, program, class),
+        "initializer" => tables::add_initializer(answer, program, class),
+        "statics" => tables::add_statics(answer, program, class),
+        "runs" | "uses" | "marks" => uses::ask(answer, program, question.word, class),
+        _ => answer.word("no question"),
     }
 }

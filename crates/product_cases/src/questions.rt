@@ -1,65 +1,17 @@
 //! What is asked of classes.
 
-use cases::ClassBuilder;
+use cases::{ClassBuilder, SpelledBytes};
 use std::alloc::{AllocError, Global};
-
-/// What a question is about.
-#[derive(Clone, Copy)]
-pub enum Verb {
-    /// `link`: whether they make a program.
-    Link,
-    /// `numbers`: the names of all classes, by their numbers.
-    Numbers,
-    /// `supers CLASS`: the given superclasses, nearest first.
-    Supers,
-    /// `init CLASS`: what is initialized before it.
-    Init,
-    /// `field REFERENCE`: what a reference of one more class resolves to.
-    Field,
-    /// `method REFERENCE`
-    Method,
-    /// `select CLASS REFERENCE`: which method a call of that method runs on an object of the class.
-    Select,
-    /// `special CLASS REFERENCE`: which method invokespecial of that method runs in the class.
-    Special,
-    /// `strings`: the strings, by their numbers.
-    Strings,
-    /// `constant ENTRY`: what an entry of the pool of one more class stands for.
-    Constant,
-    /// `methods CLASS`: how its methods are implemented, with what they take and return and their handlers.
-    Methods,
-    /// `initializer CLASS`: the place of its class initialization method.
-    Initializer,
-    /// `statics CLASS`: what its static fields get before that runs.
-    Statics,
-    /// `start 'CLASS' ..`: whether a run may start with these entries; `65*'M'` is 65 of them.
-    Start,
-    /// `run CLASS LIMIT`: a run by turns, as the number of its steps and what is seen of it.
-    Run,
-    /// `show CLASS`: what a whole run prints, and then how it ends.
-    Show,
-    /// `turns 'CLASS' ..`: a run by turns of these entries.
-    Turns,
-    /// `schedule 'CLASS' .. | THREAD STEPS ..`: steps by a schedule, from the start of these entries.
-    Schedule,
-    /// `step CLASS COUNT`: single steps, what the last gave, and then a run by turns.
-    Step,
-    /// `runs CLASS`: the methods that may run when it is initialized.
-    Runs,
-    /// `uses CLASS`: the classes that its initialization may use.
-    Uses,
-    /// `marks CLASS`: what its code is marked for, each with a method and the pc of an instruction.
-    Marks,
-    /// Anything else.
-    Nothing,
-}
 
 /// A question about classes.
 #[derive(Drop)]
 pub struct Question<'a> {
-    pub verb: Verb,
+    /// What it asks for; nothing, where its reference is misspelled.
+    pub word: &'a str,
     /// The class, or the entries.
     pub class: &'a str,
+    /// What stands after ` | `.
+    pub schedule: &'a str,
     pub count: u64,
     /// The index of the reference in the constant pool of `Asking`.
     pub index: u16,
@@ -70,27 +22,22 @@ pub struct Question<'a> {
 impl<'a> Question<'a> {
     pub fn of(alloc: Global, asked: &'a str) -> Result<Question<'a>, AllocError> {
         let (word, about) = asked.split_once(' ').unwrap_or((asked, ""));
+        let (class, reference) = about.split_once(' ').unwrap_or((about, ""));
         match word {
-            "field" => asking(alloc, Verb::Field, "", about),
-            "constant" => asking(alloc, Verb::Constant, "", about),
-            "method" => asking(alloc, Verb::Method, "", about),
-            "select" => {
-                let (class, reference) = about.split_once(' ').unwrap_or((about, ""));
-                asking(alloc, Verb::Select, class, reference)
-            }
-            "special" => {
-                let (class, reference) = about.split_once(' ').unwrap_or((about, ""));
-                asking(alloc, Verb::Special, class, reference)
-            }
-            _ => Ok(without_reference(word, about)),
+            "field" | "constant" | "method" => referring(alloc, word, "", about),
+            "select" | "special" => referring(alloc, word, class, reference),
+            "run" | "step" => Ok(counted(word, about)),
+            _ => Ok(Question::plain(word, about)),
         }
     }
 
-    /// A question without a reference.
-    pub fn plain(verb: Verb, class: &'a str) -> Question<'a> {
+    /// A question without a reference or a count.
+    pub fn plain(word: &'a str, about: &'a str) -> Question<'a> {
+        let (class, schedule) = about.split_once(" | ").unwrap_or((about, ""));
         Question {
-            verb,
+            word,
             class,
+            schedule,
             count: 0,
             index: 0,
             asking: None,
@@ -98,34 +45,12 @@ impl<'a> Question<'a> {
     }
 }
 
-fn without_reference<'a>(word: &str, about: &'a str) -> Question<'a> {
-    match word {
-        "link" => Question::plain(Verb::Link, about),
-        "numbers" => Question::plain(Verb::Numbers, about),
-        "supers" => Question::plain(Verb::Supers, about),
-        "init" => Question::plain(Verb::Init, about),
-        "strings" => Question::plain(Verb::Strings, about),
-        "methods" => Question::plain(Verb::Methods, about),
-        "initializer" => Question::plain(Verb::Initializer, about),
-        "statics" => Question::plain(Verb::Statics, about),
-        "start" => Question::plain(Verb::Start, about),
-        "show" => Question::plain(Verb::Show, about),
-        "turns" => Question::plain(Verb::Turns, about),
-        "schedule" => Question::plain(Verb::Schedule, about),
-        "runs" => Question::plain(Verb::Runs, about),
-        "uses" => Question::plain(Verb::Uses, about),
-        "marks" => Question::plain(Verb::Marks, about),
-        "run" => counted(Verb::Run, about),
-        "step" => counted(Verb::Step, about),
-        _ => Question::plain(Verb::Nothing, about),
-    }
-}
-
-fn counted(verb: Verb, about: &str) -> Question<'_> {
+fn counted<'a>(word: &'a str, about: &'a str) -> Question<'a> {
     let (class, count) = about.rsplit_once(' ').unwrap_or((about, ""));
     Question {
-        verb,
+        word,
         class,
+        schedule: "",
         count: count.parse().unwrap_or(0),
         index: 0,
         asking: None,
@@ -134,27 +59,47 @@ fn counted(verb: Verb, about: &str) -> Question<'_> {
 
 /// A question with a reference: an entry as the text form of class files spells it, or any index of the pool, in
 /// which 1 is the Utf8 `Asking` and 2 its Class.
-fn asking<'a>(
+fn referring<'a>(
     alloc: Global,
-    verb: Verb,
+    word: &'a str,
     class: &'a str,
     reference: &str,
 ) -> Result<Question<'a>, AllocError> {
-    let mut asking = ClassBuilder::new(alloc, "Asking")?;
-    let index = match reference.parse::<u16>() {
-        Ok(index) => index,
-        Err(_) => asking.constant(reference)?,
+    match ClassBuilder::new(alloc, "Asking") {
+        Ok(asking) => referring_from(asking, word, class, reference),
+        Err(error) => Err(error),
+    }
+}
+
+fn referring_from<'a>(
+    mut asking: ClassBuilder,
+    word: &'a str,
+    class: &'a str,
+    reference: &str,
+) -> Result<Question<'a>, AllocError> {
+    let Ok(index) = index_of(&mut asking, reference) else {
+        return Err(AllocError);
     };
-    let file = asking.finish()?;
-    Ok(Question {
-        verb: if file.misspelled.is_empty() {
-            verb
-        } else {
-            Verb::Nothing
-        },
+    match asking.finish() {
+        Ok(file) => Ok(asked_from(file, word, class, index)),
+        Err(error) => Err(error),
+    }
+}
+
+fn index_of(asking: &mut ClassBuilder, reference: &str) -> Result<u16, AllocError> {
+    match reference.parse::<u16>() {
+        Ok(index) => Ok(index),
+        Err(_) => asking.constant(reference),
+    }
+}
+
+fn asked_from<'a>(file: SpelledBytes, word: &'a str, class: &'a str, index: u16) -> Question<'a> {
+    Question {
+        word: if file.misspelled.is_empty() { word } else { "" },
         class,
+        schedule: "",
         count: 0,
         index,
         asking: Some(file.bytes),
-    })
+    }
 }

@@ -2,6 +2,7 @@
 
 ghost use Rattle.std.specs.Prelude.{◌≡◌, IfOk};
 
+use crate::answer::Answer;
 use classfile::{ClassFault, ClassFile, read, write};
 use std::alloc::{AllocError, Global};
 
@@ -23,13 +24,29 @@ pub fn rewritten(alloc: Global, bytes: &[u8]) -> Result<String, AllocError> {
 }
 
 /// Adds the class of a file to others, where it can be read.
-pub fn add_class(
-    alloc: Global,
-    classes: &mut Vec<ClassFile>,
-    bytes: &[u8],
-) -> Result<(), AllocError> {
-    if let Ok(class) = read(alloc, bytes) {
-        classes.push(class)?;
+pub fn add_class(answer: &mut Answer, classes: &mut Vec<ClassFile>, bytes: &[u8]) {
+    let Ok(class) = read(answer.alloc, bytes) else {
+        return;
+    };
+    if classes.push(class).is_err() {
+        answer.refuse()
     }
-    Ok(())
+}
+
+/// The bytes of classes, as they are written.
+pub fn written(answer: &mut Answer, classes: &[ClassFile]) -> Vec<Vec<u8>> {
+    let mut files = Vec::new(answer.alloc);
+    for class in classes {
+        add_written(answer, &mut files, class);
+    }
+    files
+}
+
+fn add_written(answer: &mut Answer, files: &mut Vec<Vec<u8>>, class: &ClassFile) {
+    let Ok(file) = write(answer.alloc, class) else {
+        return answer.refuse();
+    };
+    if files.push(file).is_err() {
+        answer.refuse()
+    }
 }

@@ -3,9 +3,8 @@ ghost use Rattle.std.specs.Prelude.{◌≡◌, ◌≢◌, ℕ, List, Some, OnOk}
 ghost use Rattle.std.specs.BTreeMap.{get_by_text};
 ghost use Rattle.std.specs.Option.{option_map};
 
-use crate::class_bytes::hexadecimal;
+use crate::answer::Answer;
 use cases::{SpelledBytes, add_class_files, spelled};
-use classfile::ClassFile;
 use cli::{FileCause, FileFault, Files};
 use sha2::{Digest, Sha256};
 use std::alloc::{AllocError, Global};
@@ -28,64 +27,65 @@ impl Shelf {
     }
 
     /// Adds the files of lines: a name, ` = ` and the file. That is a class in its text form; or `image`, and words
-    /// that spell an image before its digest, where `file:NAME` are the bytes of an earlier file. Answers what is
-    /// misspelled.
-    pub fn add_lines(&mut self, lines: &str) -> Result<String, AllocError> {
-        let mut misspelled = String::new(self.alloc);
+    /// that spell an image before its digest, where `file:NAME` are the bytes of an earlier file. What is misspelled
+    /// is told.
+    pub fn add_lines(&mut self, misspelled: &mut Answer, lines: &str) {
         for line in lines.lines() {
-            let (name, text) = line.split_once(" = ").unwrap_or((line, ""));
-            let wrong = self.add_line(name, text)?;
-            misspelled.push_str(&wrong)?;
+            self.add_line(misspelled, line);
         }
-        Ok(misspelled)
     }
 
-    fn add_line(&mut self, name: &str, text: &str) -> Result<String, AllocError> {
+    fn add_line(&mut self, misspelled: &mut Answer, line: &str) {
+        let (name, text) = line.split_once(" = ").unwrap_or((line, ""));
         match text.strip_prefix("image ") {
-            Some(words) => self.add_image(name, words),
-            None => self.add_class_text(name, text),
+            Some(words) => self.add_image(misspelled, name, words),
+            None => self.add_class_text(misspelled, name, text),
         }
     }
 
     /// Adds the bytes of a class in its text form.
-    fn add_class_text(&mut self, name: &str, text: &str) -> Result<String, AllocError> {
+    fn add_class_text(&mut self, misspelled: &mut Answer, name: &str, text: &str) {
         let mut files = Vec::new(self.alloc);
-        let misspelled = add_class_files(self.alloc, &mut files, text)?;
+        misspelled.made(add_class_files(self.alloc, &mut files, text));
         for bytes in &files {
-            self.add(name, bytes)?;
+            misspelled.note(self.add(name, bytes));
         }
-        Ok(misspelled)
     }
 
     /// Adds the bytes of an image: those that are spelled, and their digest.
-    fn add_image(&mut self, name: &str, words: &str) -> Result<String, AllocError> {
-        let SpelledBytes {
-            mut bytes,
-            misspelled,
-        } = self.spelled_with_files(words)?;
-        add_digest(&mut bytes)?;
-        self.add(name, &bytes)?;
-        Ok(misspelled)
+    fn add_image(&mut self, misspelled: &mut Answer, name: &str, words: &str) {
+        match self.spelled_with_files(words) {
+            Ok(file) => self.add_spelled(misspelled, name, file),
+            Err(_) => misspelled.refuse(),
+        }
+    }
+
+    fn add_spelled(&mut self, misspelled: &mut Answer, name: &str, mut file: SpelledBytes) {
+        misspelled.word(&file.misspelled);
+        misspelled.note(add_digest(&mut file.bytes));
+        misspelled.note(self.add(name, &file.bytes))
     }
 
     /// The bytes of words, where `file:NAME` are the bytes of a file.
     fn spelled_with_files(&self, words: &str) -> Result<SpelledBytes, AllocError> {
-        let mut text = String::new(self.alloc);
+        let mut text = Answer::new(self.alloc);
         for word in words.split_whitespace() {
-            self.add_word(&mut text, word)?;
+            self.add_word(&mut text, word);
         }
-        spelled(self.alloc, &text)
+        match text.finish() {
+            Ok(text) => spelled(self.alloc, &text),
+            Err(error) => Err(error),
+        }
     }
 
-    fn add_word(&self, text: &mut String, word: &str) -> Result<(), AllocError> {
-        text.push(' ')?;
+    fn add_word(&self, text: &mut Answer, word: &str) {
+        text.word(" ");
         if let Some(name) = word.strip_prefix("file:")
             && let Some(bytes) = self.find(name)
         {
-            let digits = hexadecimal(self.alloc, bytes)?;
-            return text.push_str(&digits);
+            return text.hexadecimal(bytes);
         }
-        text.push_str(word)
+        text.word(word)
     }
 
     /// Adds a file, in the place of one of its name.
@@ -101,19 +101,15 @@ impl Shelf {
         Ok(())
     }
 
-    /// Adds a class file, and its name to a text, with a space before it. It is named by its place.
-    pub fn add_class(&mut self, names: &mut String, class: &ClassFile) -> Result<(), AllocError> {
-        let bytes = classfile::write(self.alloc, class)?;
-        self.add_file(names, &bytes)
-    }
-
     /// Adds the bytes of a class file, and its name to a text, with a space before it. It is named by its place.
-    pub fn add_file(&mut self, names: &mut String, bytes: &[u8]) -> Result<(), AllocError> {
+    pub fn add_file(&mut self, names: &mut Answer, bytes: &[u8]) {
         let place = self.files.len();
-        let name = format!(in self.alloc; "{place}.class")?;
-        names.push_str(" ")?;
-        names.push_str(&name)?;
-        self.add(&name, bytes)
+        let Ok(name) = format!(in self.alloc; "{place}.class") else {
+            return names.refuse();
+        };
+        names.word(" ");
+        names.word(&name);
+        names.note(self.add(&name, bytes))
     }
 
     /// The bytes of a file.

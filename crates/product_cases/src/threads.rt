@@ -13,52 +13,47 @@ mod shown;
 mod starts;
 mod worker_gates;
 
+use crate::answer::Answer;
 use crate::threads::plan::halves;
 use cases::read_class_files;
 use classfile::{ClassFile, read};
 use program::{Program, link};
-use std::alloc::{AllocError, Global};
 use std::sync::Wait;
 use std::thread::Threads;
 
-/// Given are classes. Asked is `run`, `commits` or `settle`, and then what `answer` of `runs`, `commits` or `settling`
-/// says.
-pub fn answer<R: Threads + Wait + Sync>(
-    rt: &R,
-    alloc: Global,
-    given: &str,
-    asked: &str,
-) -> Result<String, AllocError> {
+/// Given are classes. Asked is `run`, `commits` or `settle`, and then what `runs`, `commits` or `settling` says.
+pub fn ask<R: Threads + Wait + Sync>(rt: &R, answer: &mut Answer, given: &str, asked: &str) {
+    let alloc = answer.alloc;
     match read_class_files(alloc, given, |bytes| read(alloc, bytes).ok()) {
-        Ok(Some(classes)) => of_classes(rt, alloc, classes, asked),
-        Ok(None) => String::from_str(alloc, "no classes"),
-        Err(error) => Err(error),
+        Ok(Some(classes)) => of_classes(rt, answer, classes, asked),
+        Ok(None) => answer.word("no classes"),
+        Err(_) => answer.refuse(),
     }
 }
 
 fn of_classes<R: Threads + Wait + Sync>(
     rt: &R,
-    alloc: Global,
+    answer: &mut Answer,
     classes: Vec<ClassFile>,
     asked: &str,
-) -> Result<String, AllocError> {
-    match link(alloc, classes) {
-        Ok(program) => of_program(rt, alloc, &program, asked),
-        Err(fault) => fault.to_string(alloc),
+) {
+    match link(answer.alloc, classes) {
+        Ok(program) => of_program(rt, answer, &program, asked),
+        Err(fault) => answer.show(&fault),
     }
 }
 
 fn of_program<R: Threads + Wait + Sync>(
     rt: &R,
-    alloc: Global,
+    answer: &mut Answer,
     program: &Program,
     asked: &str,
-) -> Result<String, AllocError> {
+) {
     let (verb, about) = halves(asked, " ");
     match verb {
-        "run" => runs::answer(rt, alloc, program, about),
-        "commits" => commits::answer(alloc, program, about),
-        "settle" => settling::answer(rt, alloc, program, about),
-        _ => String::from_str(alloc, "no question"),
+        "run" => runs::ask(rt, answer, program, about),
+        "commits" => answer.made(commits::answer(answer.alloc, program, about)),
+        "settle" => settling::ask(rt, answer, program, about),
+        _ => answer.word("no question"),
     }
 }

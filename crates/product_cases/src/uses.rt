@@ -1,32 +1,41 @@
 //! What the initialization of a class may run and use.
 
-use crate::members::{add_name, member_text, no_class, number_of, or_nothing};
+use crate::answer::Answer;
+use crate::members::{add_member, add_names, given};
 use program::Program;
-use std::alloc::{AllocError, Global};
-use use_graph::class_uses::Uses;
+use use_graph::class_uses::{Marks, Uses};
 use use_graph::mark::Evidence;
+use use_graph::uses;
 
-/// The methods that may run when a class is initialized, in no promised order.
-pub fn runs(alloc: Global, program: &Program, class: &str) -> Result<String, AllocError> {
-    match number_of(alloc, program, class)? {
-        Some(number) => {
-            let found = use_graph::uses(alloc, program, number)?;
-            methods_text(alloc, program, &found)
+/// Asked are of a class `runs`, the methods that may run when it is initialized, in no promised order; `uses`, the
+/// classes that its initialization may use; and `marks`, what its code is marked for, each with a method and a pc.
+pub fn ask(answer: &mut Answer, program: &Program, word: &str, class: &str) {
+    if let Some(number) = given(answer, program, class) {
+        match uses(answer.alloc, program, number) {
+            Ok(found) => of_uses(answer, program, word, &found),
+            Err(_) => answer.refuse(),
         }
-        None => no_class(alloc),
     }
 }
 
-fn methods_text(alloc: Global, program: &Program, found: &Uses) -> Result<String, AllocError> {
-    let mut text = String::new(alloc);
+fn of_uses(answer: &mut Answer, program: &Program, word: &str, found: &Uses) {
+    match word {
+        "runs" => add_methods(answer, program, found),
+        "uses" => add_names(answer, program, &found.classes),
+        _ => add_marks(answer, program, &found.marks),
+    }
+}
+
+fn add_methods(answer: &mut Answer, program: &Program, found: &Uses) {
     for class in 0..program.given_count() {
         for index in 0..program.method_count(class) {
             if is_among(found, class, index) {
-                add_word(alloc, &mut text, program, class, index)?;
+                answer.separate(", ");
+                add_member(answer, program, class, index);
             }
         }
     }
-    or_nothing(text)
+    answer.or_nothing()
 }
 
 fn is_among(found: &Uses, class: u32, index: u16) -> bool {
@@ -38,84 +47,23 @@ fn is_among(found: &Uses, class: u32, index: u16) -> bool {
     false
 }
 
-fn add_word(
-    alloc: Global,
-    text: &mut String,
-    program: &Program,
-    class: u32,
-    index: u16,
-) -> Result<(), AllocError> {
-    if !text.is_empty() {
-        text.push_str(", ")?;
-    }
-    let member = member_text(alloc, program, class, index)?;
-    text.push_str(&member)
+fn add_marks(answer: &mut Answer, program: &Program, marks: &Marks) {
+    add_mark(answer, program, "Prints ", marks.prints);
+    add_mark(answer, program, "Throws ", marks.throws);
+    add_mark(answer, program, "Monitors ", marks.monitors);
+    add_mark(answer, program, "ForeignWrite ", marks.foreign_write);
+    add_mark(answer, program, "ForeignRead ", marks.foreign_read);
+    add_mark(answer, program, "Unsupported ", marks.unsupported);
+    add_mark(answer, program, "Missing ", marks.missing);
+    answer.or_nothing()
 }
 
-/// The classes that the initialization of a class may use.
-pub fn uses(alloc: Global, program: &Program, class: &str) -> Result<String, AllocError> {
-    match number_of(alloc, program, class)? {
-        Some(number) => {
-            let found = use_graph::uses(alloc, program, number)?;
-            classes_text(alloc, program, &found)
-        }
-        None => no_class(alloc),
+fn add_mark(answer: &mut Answer, program: &Program, name: &str, evidence: Option<Evidence>) {
+    if let Some(evidence) = evidence {
+        answer.separate(", ");
+        answer.word(name);
+        add_member(answer, program, evidence.class, evidence.index);
+        answer.word(" at ");
+        answer.show(&evidence.pc)
     }
-}
-
-fn classes_text(alloc: Global, program: &Program, found: &Uses) -> Result<String, AllocError> {
-    let mut text = String::new(alloc);
-    for class in &found.classes {
-        add_name(alloc, &mut text, program, *class)?;
-    }
-    or_nothing(text)
-}
-
-/// What the code of a class is marked for: each mark with a method and a pc.
-pub fn marks(alloc: Global, program: &Program, class: &str) -> Result<String, AllocError> {
-    match number_of(alloc, program, class)? {
-        Some(number) => {
-            let found = use_graph::uses(alloc, program, number)?;
-            marks_text(alloc, program, &found)
-        }
-        None => no_class(alloc),
-    }
-}
-
-fn marks_text(alloc: Global, program: &Program, found: &Uses) -> Result<String, AllocError> {
-    let marks = &found.marks;
-    let mut text = String::new(alloc);
-    add_mark(alloc, &mut text, program, "Prints", marks.prints)?;
-    add_mark(alloc, &mut text, program, "Throws", marks.throws)?;
-    add_mark(alloc, &mut text, program, "Monitors", marks.monitors)?;
-    add_mark(
-        alloc,
-        &mut text,
-        program,
-        "ForeignWrite",
-        marks.foreign_write,
-    )?;
-    add_mark(alloc, &mut text, program, "ForeignRead", marks.foreign_read)?;
-    add_mark(alloc, &mut text, program, "Unsupported", marks.unsupported)?;
-    add_mark(alloc, &mut text, program, "Missing", marks.missing)?;
-    or_nothing(text)
-}
-
-fn add_mark(
-    alloc: Global,
-    text: &mut String,
-    program: &Program,
-    name: &str,
-    evidence: Option<Evidence>,
-) -> Result<(), AllocError> {
-    let Some(evidence) = evidence else {
-        return Ok(());
-    };
-    if !text.is_empty() {
-        text.push_str(", ")?;
-    }
-    let member = member_text(alloc, program, evidence.class, evidence.index)?;
-    let pc = evidence.pc;
-    let mark = format!(in alloc; "{name} {member} at {pc}")?;
-    text.push_str(&mark)
 }

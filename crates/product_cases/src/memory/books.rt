@@ -89,11 +89,19 @@ fn commit_one<O: Origin>(
     requires program { program.now ≡ O.program }
     requires thread { 0 < length book.old.past.world.threads }
 {
-    let frames = book.frames(alloc, 0)?;
-    let done = book.done(alloc, program)?;
-    let made = stretch::<O>(alloc, program, frames, &done)?;
-    let commit = book.commit(alloc, program, 0, made)?;
-    Ok(matches!(commit, Commit::Moved))
+    let Ok(frames) = book.frames(alloc, 0) else {
+        return Err(AllocError);
+    };
+    let Ok(done) = book.done(alloc, program) else {
+        return Err(AllocError);
+    };
+    let Ok(made) = stretch::<O>(alloc, program, frames, &done) else {
+        return Err(AllocError);
+    };
+    match book.commit(alloc, program, 0, made) {
+        Ok(commit) => Ok(matches!(commit, Commit::Moved)),
+        Err(error) => Err(error),
+    }
 }
 
 /// Tells the journal of a book, what is seen of its world, and how much of what was printed goes out.

@@ -4,10 +4,11 @@ use super::inputs::{Random, Spoiling, spoilt};
 use super::page::Page;
 use super::programs::shelf_of;
 use super::readers::Reader;
+use crate::answer::Answer;
 use crate::image_bytes::body;
 use crate::shelf::Shelf;
 use program::Program;
-use std::alloc::{AllocError, Global};
+use std::alloc::Global;
 use std::io::Write;
 
 /// How many random inputs each reader gets, and how long the longest is.
@@ -35,48 +36,62 @@ fn letters_of(reader: Reader) -> &'static [u8] {
     }
 }
 
-/// How often each answer came, by its first word, in the order of their first coming.
+/// How often an answer came, by its first word.
+#[derive(Drop)]
+struct Counted {
+    word: String,
+    count: u64,
+}
+
+/// How often each answer came, in the order of their first coming.
 #[derive(Drop)]
 struct Tally {
-    alloc: Global,
-    words: Vec<String>,
-    counts: Vec<u64>,
+    counted: Vec<Counted>,
     longest: usize,
 }
 
 impl Tally {
     fn new(alloc: Global) -> Tally {
         Tally {
-            alloc,
-            words: Vec::new(alloc),
-            counts: Vec::new(alloc),
+            counted: Vec::new(alloc),
             longest: 0,
         }
     }
 
-    /// Adds an answer to an input of so many bytes.
-    fn add(&mut self, length: usize, answer: &str) -> Result<(), AllocError> {
+    /// Counts what was told of an input of so many bytes.
+    fn count(&mut self, answer: &mut Answer, length: usize, told: &str) {
         self.longest = self.longest.max(length);
-        let (word, _) = answer.split_once(' ').unwrap_or((answer, ""));
-        for (known, count) in self.words.iter().zip(self.counts.iter_mut()) {
-            if known.as_str() == word {
-                *count = count.saturating_add(1);
-                return Ok(());
+        let (word, _) = told.split_once(' ').unwrap_or((told, ""));
+        for known in self.counted.iter_mut() {
+            if known.word.as_str() == word {
+                known.count = known.count.saturating_add(1);
+                return;
             }
         }
-        self.words.push(String::from_str(self.alloc, word)?)?;
-        self.counts.push(1)?;
-        Ok(())
+        self.add_word(answer, word)
     }
 
-    /// The longest input, and each word with its count.
-    fn text(&self) -> Result<String, AllocError> {
-        let longest = self.longest;
-        let mut text = format!(in self.alloc; "at most {longest} bytes")?;
-        for (word, count) in self.words.iter().zip(&self.counts) {
-            write!(text, ", {word} {count}")?;
+    /// Adds a word that came once.
+    fn add_word(&mut self, answer: &mut Answer, word: &str) {
+        let Ok(word) = String::from_str(answer.alloc, word) else {
+            return answer.refuse();
+        };
+        if self.counted.push(Counted { word, count: 1 }).is_err() {
+            answer.refuse()
         }
-        Ok(text)
+    }
+
+    /// Tells the longest input, and each word with its count.
+    fn tell(&self, answer: &mut Answer) {
+        answer.word("at most ");
+        answer.show(&self.longest);
+        answer.word(" bytes");
+        for known in &self.counted {
+            answer.word(", ");
+            answer.word(&known.word);
+            answer.word(" ");
+            answer.show(&known.count);
+        }
     }
 }
 
@@ -101,39 +116,32 @@ pub fn feed<W: Write>(
     }
 }
 
-/// Feeds the images of a shelf, which lines name.
+/// Feeds the images of a shelf, which lines name, without their digests.
 fn feed_images<W: Write>(page: &mut Page<'_, W>, program: &Program, shelf: &Shelf, lines: &str) {
-    match images_of(page.alloc, shelf, lines) {
-        Ok(images) => feed_all(page, Reader::Images, program, &images),
-        Err(_) => page.give_up(),
-    }
-}
-
-/// The images without their digests.
-fn images_of(alloc: Global, shelf: &Shelf, lines: &str) -> Result<Vec<Vec<u8>>, AllocError> {
-    let mut images = Vec::new(alloc);
+    let mut images = Vec::new(page.alloc);
     for line in lines.lines() {
         let (name, _) = line.split_once(' ').unwrap_or((line, ""));
-        let bytes = shelf.find(name).unwrap_or(&[]);
-        images.push(Vec::from_slice(alloc, body(bytes))?)?;
+        add_input(page, &mut images, body(shelf.find(name).unwrap_or(&[])));
     }
-    Ok(images)
+    feed_all(page, Reader::Images, program, &images)
 }
 
+/// Feeds the bytes of these texts.
 fn feed_texts<W: Write>(page: &mut Page<'_, W>, reader: Reader, program: &Program, texts: &[&str]) {
-    match inputs_of(page.alloc, texts) {
-        Ok(inputs) => feed_all(page, reader, program, &inputs),
-        Err(_) => page.give_up(),
+    let mut inputs = Vec::new(page.alloc);
+    for text in texts {
+        add_input(page, &mut inputs, text.as_bytes());
     }
+    feed_all(page, reader, program, &inputs)
 }
 
-/// Inputs of the bytes of these texts.
-fn inputs_of(alloc: Global, texts: &[&str]) -> Result<Vec<Vec<u8>>, AllocError> {
-    let mut inputs = Vec::new(alloc);
-    for text in texts {
-        inputs.push(Vec::from_slice(alloc, text.as_bytes())?)?;
+fn add_input<W: Write>(page: &mut Page<'_, W>, inputs: &mut Vec<Vec<u8>>, bytes: &[u8]) {
+    let Ok(input) = Vec::from_slice(page.alloc, bytes) else {
+        return page.give_up();
+    };
+    if inputs.push(input).is_err() {
+        page.give_up()
     }
-    Ok(inputs)
 }
 
 fn feed_all<W: Write>(page: &mut Page<'_, W>, reader: Reader, program: &Program, good: &[Vec<u8>]) {
@@ -159,55 +167,66 @@ fn feed_made<W: Write>(
         return page.give_up();
     };
     page.ask(&line);
-    match counts_of(page.alloc, reader, program, good, spoiling) {
+    let mut answer = Answer::new(page.alloc);
+    add_counts(&mut answer, reader, program, good, spoiling);
+    match answer.finish() {
         Ok(text) => page.line(&text),
         Err(_) => page.give_up(),
     }
 }
 
 /// The counts of a reader's answers.
-fn counts_of(
-    alloc: Global,
+fn add_counts(
+    answer: &mut Answer,
     reader: Reader,
     program: &Program,
     good: &[Vec<u8>],
     spoiling: Option<Spoiling>,
-) -> Result<String, AllocError> {
-    let mut tally = Tally::new(alloc);
+) {
+    let mut tally = Tally::new(answer.alloc);
     for bytes in good {
         match spoiling {
-            Some(spoiling) => count_spoilt(alloc, reader, program, bytes, spoiling, &mut tally)?,
-            None => count_random(alloc, reader, program, bytes, &mut tally)?,
+            Some(spoiling) => count_spoilt(answer, reader, program, bytes, spoiling, &mut tally),
+            None => count_random(answer, reader, program, bytes, &mut tally),
         }
     }
-    tally.text()
+    tally.tell(answer)
+}
+
+/// Counts the answer to an input.
+fn count(answer: &mut Answer, reader: Reader, program: &Program, bytes: &[u8], tally: &mut Tally) {
+    let mut told = Answer::new(answer.alloc);
+    reader.ask(&mut told, program, bytes);
+    match told.finish() {
+        Ok(told) => tally.count(answer, bytes.len(), &told),
+        Err(_) => answer.refuse(),
+    }
 }
 
 /// Counts the answers to a good input, and to it spoilt at each place.
 fn count_spoilt(
-    alloc: Global,
+    answer: &mut Answer,
     reader: Reader,
     program: &Program,
     good: &[u8],
     spoiling: Spoiling,
     tally: &mut Tally,
-) -> Result<(), AllocError> {
-    tally.add(good.len(), &reader.answer(alloc, program, good)?)?;
+) {
+    count(answer, reader, program, good, tally);
     for number in 0..good.len() {
-        let bytes = spoilt(alloc, good, spoiling, number)?;
-        tally.add(bytes.len(), &reader.answer(alloc, program, &bytes)?)?;
+        let bytes = spoilt(answer, good, spoiling, number);
+        count(answer, reader, program, &bytes, tally);
     }
-    Ok(())
 }
 
 /// Counts the answers to beginnings of a good input with random bytes after them, and random bytes alone.
 fn count_random(
-    alloc: Global,
+    answer: &mut Answer,
     reader: Reader,
     program: &Program,
     good: &[u8],
     tally: &mut Tally,
-) -> Result<(), AllocError> {
+) {
     let mut random = Random::new();
     let letters = letters_of(reader);
     for number in 0..RANDOM_INPUTS {
@@ -216,9 +235,8 @@ fn count_random(
         } else {
             random.up_to(good.len())
         };
-        let mut bytes = Vec::from_slice(alloc, good.get(..kept).unwrap_or(good))?;
-        random.add_bytes(&mut bytes, RANDOM_LENGTH, letters)?;
-        tally.add(bytes.len(), &reader.answer(alloc, program, &bytes)?)?;
+        let mut bytes = answer.copied(good.get(..kept).unwrap_or(good));
+        random.add_bytes(answer, &mut bytes, RANDOM_LENGTH, letters);
+        count(answer, reader, program, &bytes, tally);
     }
-    Ok(())
 }

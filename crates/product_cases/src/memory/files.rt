@@ -56,7 +56,10 @@ fn link_read<W: Write>(page: &mut Page<'_, W>, files: &[Vec<u8>]) {
 fn bytes_in(alloc: Global, classes: &[ClassFile]) -> Result<usize, AllocError> {
     let mut count = 0usize;
     for class in classes {
-        count = count.saturating_add(write(alloc, class)?.len());
+        let Ok(text) = write(alloc, class) else {
+            return Err(AllocError);
+        };
+        count = count.saturating_add(text.len());
     }
     Ok(count)
 }
@@ -67,7 +70,10 @@ pub fn instructions_in(alloc: Global, classes: &[ClassFile]) -> Result<usize, Al
     for class in classes {
         for method in class.methods().iter() {
             if let Some(code) = method.code() {
-                count = count.saturating_add(decode(alloc, code)?.len());
+                let Ok(body) = decode(alloc, code) else {
+                    return Err(AllocError);
+                };
+                count = count.saturating_add(body.len());
             }
         }
     }

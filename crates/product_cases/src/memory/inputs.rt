@@ -1,6 +1,6 @@
 //! Inputs for readers: random ones, and good ones that are cut or changed.
 
-use std::alloc::{AllocError, Global};
+use crate::answer::Answer;
 
 /// A generator of random numbers, the same in each run: a linear congruential one.
 #[derive(Clone, Copy)]
@@ -31,14 +31,16 @@ impl Random {
     /// Adds up to so many bytes, each one of these letters; of any value where there are none.
     pub fn add_bytes(
         &mut self,
+        answer: &mut Answer,
         bytes: &mut Vec<u8>,
         most: usize,
         letters: &[u8],
-    ) -> Result<(), AllocError> {
+    ) {
         for _ in 0..self.up_to(most) {
-            bytes.push(letter_of(letters, self.next()))?;
+            if bytes.push(letter_of(letters, self.next())).is_err() {
+                answer.refuse()
+            }
         }
-        Ok(())
     }
 }
 
@@ -61,20 +63,15 @@ pub enum Spoiling {
 }
 
 /// A good input, spoilt at a number below its length.
-pub fn spoilt(
-    alloc: Global,
-    good: &[u8],
-    spoiling: Spoiling,
-    number: usize,
-) -> Result<Vec<u8>, AllocError> {
+pub fn spoilt(answer: &mut Answer, good: &[u8], spoiling: Spoiling, number: usize) -> Vec<u8> {
     match spoiling {
-        Spoiling::Cut => Vec::from_slice(alloc, good.get(..number).unwrap_or(good)),
+        Spoiling::Cut => answer.copied(good.get(..number).unwrap_or(good)),
         Spoiling::Turned(bits) => {
-            let mut bytes = Vec::from_slice(alloc, good)?;
+            let mut bytes = answer.copied(good);
             if let Some(byte) = bytes.get_mut(number) {
                 *byte ^= bits;
             }
-            Ok(bytes)
+            bytes
         }
     }
 }

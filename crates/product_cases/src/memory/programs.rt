@@ -1,5 +1,6 @@
 //! Class files of their text form, and the programs and worlds that they make; none where the data are wrong.
 
+use crate::answer::Answer;
 use crate::programs::classes_of;
 use crate::shelf::Shelf;
 use cases::add_class_files;
@@ -44,11 +45,16 @@ fn add_all(
     files: &[Vec<u8>],
     lines: &str,
 ) -> Result<String, AllocError> {
-    let mut names = String::new(alloc);
+    let mut names = Answer::new(alloc);
     for file in files {
-        shelf.add_file(&mut names, file)?;
+        shelf.add_file(&mut names, file);
     }
-    shelf.add_lines(lines)
+    let mut misspelled = Answer::new(alloc);
+    shelf.add_lines(&mut misspelled, lines);
+    match names.finish() {
+        Ok(_) => misspelled.finish(),
+        Err(error) => Err(error),
+    }
 }
 
 /// The lazy start of these entries, apart by commas.

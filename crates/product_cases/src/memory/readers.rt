@@ -2,6 +2,7 @@
 
 use super::files::instructions_in;
 use super::programs::start_of;
+use crate::answer::Answer;
 use crate::shelf::add_digest;
 use classfile::ClassFile;
 use cli::entries_of;
@@ -9,7 +10,6 @@ use init_engine::World;
 use journal::{Journal, JournalFault};
 use options::{force, parse};
 use program::{Program, link};
-use std::alloc::{AllocError, Global};
 use std::str::from_utf8;
 use thread_runner::replay::{ReplayFault, replay};
 
@@ -41,82 +41,80 @@ impl Reader {
     }
 
     /// What it answers: a word for a value, or a fault. Journals, lists and entries are about the classes of a program.
-    pub fn answer(
-        self,
-        alloc: Global,
-        program: &Program,
-        bytes: &[u8],
-    ) -> Result<String, AllocError> {
+    pub fn ask(self, answer: &mut Answer, program: &Program, bytes: &[u8]) {
         match self {
-            Reader::ClassFiles => of_class_file(alloc, bytes),
-            Reader::Images => of_image(alloc, bytes),
-            Reader::Journals => of_journal(alloc, program, bytes),
-            Reader::Lists => of_list(alloc, program, from_utf8(bytes).unwrap_or("")),
-            Reader::Entries => of_entries(alloc, program, from_utf8(bytes).unwrap_or("")),
+            Reader::ClassFiles => of_class_file(answer, bytes),
+            Reader::Images => of_image(answer, bytes),
+            Reader::Journals => of_journal(answer, program, bytes),
+            Reader::Lists => of_list(answer, program, from_utf8(bytes).unwrap_or("")),
+            Reader::Entries => of_entries(answer, program, from_utf8(bytes).unwrap_or("")),
         }
     }
 }
 
-fn of_class_file(alloc: Global, bytes: &[u8]) -> Result<String, AllocError> {
-    match classfile::read(alloc, bytes) {
-        Ok(class) => of_class(alloc, class),
-        Err(fault) => fault.to_string(alloc),
+fn of_class_file(answer: &mut Answer, bytes: &[u8]) {
+    match classfile::read(answer.alloc, bytes) {
+        Ok(class) => of_class(answer, class),
+        Err(fault) => answer.show(&fault),
     }
 }
 
-fn of_class(alloc: Global, class: ClassFile) -> Result<String, AllocError> {
-    let mut classes = Vec::new(alloc);
-    classes.push(class)?;
-    let _count = instructions_in(alloc, &classes)?;
-    match link(alloc, classes) {
-        Ok(_) => String::from_str(alloc, "linked"),
-        Err(fault) => fault.to_string(alloc),
+fn of_class(answer: &mut Answer, class: ClassFile) {
+    let mut classes = Vec::new(answer.alloc);
+    if classes.push(class).is_err() || instructions_in(answer.alloc, &classes).is_err() {
+        return answer.refuse();
+    }
+    match link(answer.alloc, classes) {
+        Ok(_) => answer.word("linked"),
+        Err(fault) => answer.show(&fault),
     }
 }
 
-fn of_image(alloc: Global, bytes: &[u8]) -> Result<String, AllocError> {
-    let mut whole = Vec::from_slice(alloc, bytes)?;
-    add_digest(&mut whole)?;
-    match image_reader::read(alloc, &whole) {
-        Ok(_) => String::from_str(alloc, "read"),
-        Err(fault) => fault.to_string(alloc),
+fn of_image(answer: &mut Answer, bytes: &[u8]) {
+    let mut whole = answer.copied(bytes);
+    answer.note(add_digest(&mut whole));
+    match image_reader::read(answer.alloc, &whole) {
+        Ok(_) => answer.word("read"),
+        Err(fault) => answer.show(&fault),
     }
 }
 
-fn of_journal(alloc: Global, program: &Program, bytes: &[u8]) -> Result<String, AllocError> {
-    match Journal::parse(alloc, bytes) {
-        Ok(journal) => of_replay(alloc, program, &journal),
-        Err(JournalFault::Memory) => Err(AllocError),
-        Err(JournalFault::Text(_)) => String::from_str(alloc, "Text"),
+fn of_journal(answer: &mut Answer, program: &Program, bytes: &[u8]) {
+    match Journal::parse(answer.alloc, bytes) {
+        Ok(journal) => of_replay(answer, program, &journal),
+        Err(JournalFault::Memory) => answer.refuse(),
+        Err(JournalFault::Text(_)) => answer.word("Text"),
     }
 }
 
-fn of_replay(alloc: Global, program: &Program, journal: &Journal) -> Result<String, AllocError> {
-    let Some(start) = start_of(alloc, program, "Work,Work") else {
-        return Err(AllocError);
+fn of_replay(answer: &mut Answer, program: &Program, journal: &Journal) {
+    let Some(start) = start_of(answer.alloc, program, "Work,Work") else {
+        return answer.refuse();
     };
-    match replay(alloc, program, start, journal) {
-        Ok(_) => String::from_str(alloc, "replayed"),
-        Err(ReplayFault::Memory) => Err(AllocError),
-        Err(ReplayFault::Turn(_)) => String::from_str(alloc, "Turn"),
+    match replay(answer.alloc, program, start, journal) {
+        Ok(_) => answer.word("replayed"),
+        Err(ReplayFault::Memory) => answer.refuse(),
+        Err(ReplayFault::Turn(_)) => answer.word("Turn"),
     }
 }
 
-fn of_list(alloc: Global, program: &Program, list: &str) -> Result<String, AllocError> {
-    let patterns = match parse(alloc, list) {
-        Ok(patterns) => patterns,
-        Err(fault) => return fault.to_string(alloc),
+fn of_list(answer: &mut Answer, program: &Program, list: &str) {
+    let forced = match parse(answer.alloc, list) {
+        Ok(patterns) => force(answer.alloc, program, &patterns),
+        Err(fault) => Err(fault),
     };
-    match force(alloc, program, &patterns) {
-        Ok(_) => String::from_str(alloc, "known"),
-        Err(fault) => fault.to_string(alloc),
+    match forced {
+        Ok(_) => answer.word("known"),
+        Err(fault) => answer.show(&fault),
     }
 }
 
-fn of_entries(alloc: Global, program: &Program, list: &str) -> Result<String, AllocError> {
-    let entries = entries_of(alloc, list)?;
-    match World::lazy(alloc, program, &entries) {
-        Ok(_) => String::from_str(alloc, "started"),
-        Err(fault) => fault.to_string(alloc),
+fn of_entries(answer: &mut Answer, program: &Program, list: &str) {
+    let Ok(entries) = entries_of(answer.alloc, list) else {
+        return answer.refuse();
+    };
+    match World::lazy(answer.alloc, program, &entries) {
+        Ok(_) => answer.word("started"),
+        Err(fault) => answer.show(&fault),
     }
 }

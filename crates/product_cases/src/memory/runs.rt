@@ -110,9 +110,13 @@ fn see_world<W: Write>(page: &mut Page<'_, W>, world: World) {
 
 /// What threads share where each class is initialized, and its static fields are as they begin.
 fn initialized(alloc: Global, program: &Program) -> Result<Shared, AllocError> {
-    let mut shared = lazy_shared(alloc, program, 1)?;
+    let Ok(mut shared) = lazy_shared(alloc, program, 1) else {
+        return Err(AllocError);
+    };
     for class in 0..program.given_count() {
-        shared.initialize(alloc, class, Fields::new(alloc), Pool::new(alloc))?;
+        let Ok(()) = shared.initialize(alloc, class, Fields::new(alloc), Pool::new(alloc)) else {
+            return Err(AllocError);
+        };
     }
     Ok(shared)
 }

@@ -69,7 +69,9 @@ fn make<R: Threads + Wait + Sync, W: Write>(
 fn uses_in(alloc: Global, program: &Program) -> Result<usize, AllocError> {
     let mut count = 0usize;
     for class in 0..program.given_count() {
-        let found = uses(alloc, program, class)?;
+        let Ok(found) = uses(alloc, program, class) else {
+            return Err(AllocError);
+        };
         count = count.saturating_add(found.methods.len());
         count = count.saturating_add(found.classes.len());
     }
@@ -96,8 +98,10 @@ fn judged(alloc: Global, program: &Program) -> Result<Verdicts, AllocError>
 
 /// How many there are.
 fn judged_in(alloc: Global, program: &Program) -> Result<usize, AllocError> {
-    let verdicts = judged(alloc, program)?;
-    Ok(verdicts.as_slice().len())
+    match judged(alloc, program) {
+        Ok(verdicts) => Ok(verdicts.as_slice().len()),
+        Err(error) => Err(error),
+    }
 }
 
 /// Settles on this thread, or by workers.

@@ -3,6 +3,7 @@
 ghost use Rattle.std.specs.Prelude.{◌≡◌, ◌<◌, length};
 ghost use Rattle.init_engine.specs.Turns.{world_of};
 
+use crate::answer::Answer;
 use crate::threads::plan::{ThreadPlan, halves};
 use crate::threads::starts::start;
 use init_engine::World;
@@ -66,84 +67,63 @@ fn answers_in<O: Origin>(
     requires start { world_of world ≡ O.start }
 {
     let mut book = Book::<O>::new(alloc, world, 10_000);
-    let mut text = String::new(alloc);
+    let mut answer = Answer::new(alloc);
     for word in plan.words.split_whitespace() {
-        match commit_word(
-            alloc,
-            program,
-            &mut book,
-            plan.settings,
-            word,
-            others,
-            &mut text,
-        ) {
-            Ok(()) => {}
-            Err(error) => return Err(error),
-        }
+        commit_word(&mut answer, program, &mut book, plan.settings, word, others);
     }
-    Ok(text)
+    answer.finish()
 }
 
 /// Commits what a word asks for.
 fn commit_word<O: Origin>(
-    alloc: Global,
+    answer: &mut Answer,
     program: &Program,
     book: &mut Book<O>,
     kind: &str,
     word: &str,
     others: &DoneSet,
-    text: &mut String,
-) -> Result<(), AllocError>
+)
     requires { program.now ≡ O.program }
 {
     match word {
-        "known" => match book.done(alloc, program) {
-            Ok(known) => commit_over(alloc, program, book, kind, &known, text),
-            Err(error) => Err(error),
+        "known" => match book.done(answer.alloc, program) {
+            Ok(known) => commit_over(answer, program, book, kind, &known),
+            Err(_) => answer.refuse(),
         },
-        "others" => commit_over(alloc, program, book, kind, others, text),
-        "twice" => commit_twice(alloc, program, book, kind, text),
-        _ => commit_over(alloc, program, book, kind, &DoneSet::none(), text),
+        "others" => commit_over(answer, program, book, kind, others),
+        "twice" => commit_twice(answer, program, book, kind),
+        _ => commit_over(answer, program, book, kind, &DoneSet::none()),
     }
 }
 
 /// Commits a stretch over these classes.
 fn commit_over<O: Origin>(
-    alloc: Global,
+    answer: &mut Answer,
     program: &Program,
     book: &mut Book<O>,
     kind: &str,
     done: &DoneSet,
-    text: &mut String,
-) -> Result<(), AllocError>
+)
     requires { program.now ≡ O.program }
 {
-    match make(alloc, program, book, kind, done) {
-        Ok(made) => commit(alloc, program, book, made, text),
-        Err(error) => Err(error),
+    match make(answer.alloc, program, book, kind, done) {
+        Ok(made) => commit(answer, program, book, made),
+        Err(_) => answer.refuse(),
     }
 }
 
 /// Commits two stretches that were made at the same place.
-fn commit_twice<O: Origin>(
-    alloc: Global,
-    program: &Program,
-    book: &mut Book<O>,
-    kind: &str,
-    text: &mut String,
-) -> Result<(), AllocError>
+fn commit_twice<O: Origin>(answer: &mut Answer, program: &Program, book: &mut Book<O>, kind: &str)
     requires { program.now ≡ O.program }
 {
-    let Ok(first) = make(alloc, program, book, kind, &DoneSet::none()) else {
-        return Err(AllocError);
+    let Ok(first) = make(answer.alloc, program, book, kind, &DoneSet::none()) else {
+        return answer.refuse();
     };
-    let Ok(other) = make(alloc, program, book, kind, &DoneSet::none()) else {
-        return Err(AllocError);
+    let Ok(other) = make(answer.alloc, program, book, kind, &DoneSet::none()) else {
+        return answer.refuse();
     };
-    match commit(alloc, program, book, first, text) {
-        Ok(()) => commit(alloc, program, book, other, text),
-        Err(error) => Err(error),
-    }
+    commit(answer, program, book, first);
+    commit(answer, program, book, other)
 }
 
 /// What a thread made.
@@ -213,33 +193,33 @@ fn make_on_front<O: Origin>(
 
 /// Commits a stretch.
 fn commit<O: Origin>(
-    alloc: Global,
+    answer: &mut Answer,
     program: &Program,
     book: &mut Book<O>,
     made: MadeStretch<O>,
-    text: &mut String,
-) -> Result<(), AllocError>
+)
     requires { program.now ≡ O.program }
 {
     if book.world().thread_count() == 0 {
-        return Ok(());
+        return;
     }
-    let answer = match made {
-        MadeStretch::Frames(made) => book.commit(alloc, program, 0, made),
-        MadeStretch::Front(made) => book.commit_front(alloc, program, 0, made),
+    let commit = match made {
+        MadeStretch::Frames(made) => book.commit(answer.alloc, program, 0, made),
+        MadeStretch::Front(made) => book.commit_front(answer.alloc, program, 0, made),
     };
-    match answer {
-        Ok(answer) => add_commit(book, answer, text),
-        Err(error) => Err(error),
+    match commit {
+        Ok(commit) => add_commit(answer, book, commit),
+        Err(_) => answer.refuse(),
     }
 }
 
 /// Adds what was answered to a commit, and the journal's last run.
-fn add_commit<O: Origin>(
-    book: &Book<O>,
-    answer: Commit,
-    text: &mut String,
-) -> Result<(), AllocError> {
+fn add_commit<O: Origin>(answer: &mut Answer, book: &Book<O>, commit: Commit) {
     let (thread, steps) = book.journal().last().copied().unwrap_or((0, 0));
-    write!(text, "{answer:?} {thread} {steps};")
+    answer.debug(&commit);
+    answer.word(" ");
+    answer.show(&thread);
+    answer.word(" ");
+    answer.show(&steps);
+    answer.word(";")
 }

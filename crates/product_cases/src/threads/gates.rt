@@ -2,8 +2,9 @@
 
 ghost use Rattle.std.specs.Prelude.{Some};
 
+use crate::answer::Answer;
 use crate::threads::meeting::Meeting;
-use std::alloc::{AllocError, Global};
+use std::alloc::Global;
 use std::sync::Wait;
 use thread_runner::{Gate, Sink, SinkFault};
 
@@ -47,14 +48,13 @@ impl<'a, R: Wait> ThreadGate<'a, R> {
     }
 
     /// Adds whether all for whom others wait were there, and no wait took too long.
-    pub fn add_meeting(&self, text: &mut String) -> Result<(), AllocError> {
-        let need = match self.rule.place {
-            Place::Nowhere => return Ok(()),
-            Place::Before => self.threads,
-            Place::After => self.threads,
-            Place::Across => 3,
-        };
-        self.meeting.add_to(text, need)
+    pub fn add_meeting(&self, answer: &mut Answer) {
+        match self.rule.place {
+            Place::Nowhere => {}
+            Place::Before => self.meeting.add_to(answer, self.threads),
+            Place::After => self.meeting.add_to(answer, self.threads),
+            Place::Across => self.meeting.add_to(answer, 3),
+        }
     }
 
     fn begin_across(&self, who: u32, job: u64) {

@@ -1,6 +1,6 @@
 //! Waits that end.
 
-use std::alloc::AllocError;
+use crate::answer::Answer;
 use std::sync::Wait;
 use std::sync::atomic::{AtomicU64, Ordering};
 use std::thread::Parker;
@@ -35,12 +35,18 @@ impl<'a, R: Wait> Meeting<'a, R> {
     }
 
     /// Adds ` met` where the count is high enough and no wait took too long, or else both.
-    pub fn add_to(&self, text: &mut String, need: u64) -> Result<(), AllocError> {
+    pub fn add_to(&self, answer: &mut Answer, need: u64) {
         let (count, late) = (self.count(), self.late());
         if count >= need && late == 0 {
-            return text.push_str(" met");
+            return answer.word(" met");
         }
-        write!(text, " {count} of {need}, {late} late")
+        answer.word(" ");
+        answer.show(&count);
+        answer.word(" of ");
+        answer.show(&need);
+        answer.word(", ");
+        answer.show(&late);
+        answer.word(" late")
     }
 
     /// Counts the caller. The first so many wait until all of them are there.

@@ -1,5 +1,6 @@
 //! Runs of threads at gates.
 
+use crate::answer::Answer;
 use crate::threads::gates::{Tape, ThreadGate};
 use crate::threads::plan::{MOST_STEPS, ThreadPlan, number_in, rule_of};
 use crate::threads::shown::RunShown;
@@ -16,31 +17,26 @@ use thread_runner::run_threads;
 /// Asked is a run (`plan.rt`). Answered is what its words ask for (`shown.rt`), then `met` where threads waited for one
 /// another and all came, and then of the replay of its journal, where it is asked for, how often the threads print, and
 /// `same` where they print what the sink got.
-pub fn answer<R: Threads + Wait + Sync>(
-    rt: &R,
-    alloc: Global,
-    program: &Program,
-    about: &str,
-) -> Result<String, AllocError> {
+pub fn ask<R: Threads + Wait + Sync>(rt: &R, answer: &mut Answer, program: &Program, about: &str) {
     let plan = ThreadPlan::of(about);
-    match start(alloc, program, plan.entries, plan.initialized) {
-        Ok(Some(world)) => answer_from(rt, alloc, program, world, &plan),
-        Ok(None) => String::from_str(alloc, "no start"),
-        Err(error) => Err(error),
+    match start(answer.alloc, program, plan.entries, plan.initialized) {
+        Ok(Some(world)) => run_from(rt, answer, program, world, &plan),
+        Ok(None) => answer.word("no start"),
+        Err(_) => answer.refuse(),
     }
 }
 
-fn answer_from<R: Threads + Wait + Sync>(
+fn run_from<R: Threads + Wait + Sync>(
     rt: &R,
-    alloc: Global,
+    answer: &mut Answer,
     program: &Program,
     world: World,
     plan: &ThreadPlan<'_>,
-) -> Result<String, AllocError> {
+) {
     let gate = ThreadGate::new(rt, rule_of(plan.settings), world.thread_count());
-    match performed(rt, alloc, program, world, plan, &gate) {
-        Ok(shown) => told(alloc, program, plan, &gate, &shown),
-        Err(error) => Err(error),
+    match performed(rt, answer.alloc, program, world, plan, &gate) {
+        Ok(shown) => add_shown(answer, program, plan, &gate, &shown),
+        Err(_) => answer.refuse(),
     }
 }
 
@@ -59,78 +55,49 @@ fn performed<R: Threads + Wait + Sync>(
     RunShown::of(alloc, answer, tape.got)
 }
 
-fn told<R: Wait>(
-    alloc: Global,
+/// What the words of a plan ask for, whether threads met, and what the replay comes to.
+fn add_shown<R: Wait>(
+    answer: &mut Answer,
     program: &Program,
     plan: &ThreadPlan<'_>,
     gate: &ThreadGate<'_, R>,
     shown: &RunShown,
-) -> Result<String, AllocError> {
-    let Ok(mut text) = words_told(alloc, gate, shown, plan.words) else {
-        return Err(AllocError);
-    };
+) {
+    for word in plan.words.split_whitespace() {
+        shown.add_word(answer, word);
+    }
+    gate.add_meeting(answer);
     if plan.settings.contains("again") {
-        return match add_replay(alloc, &mut text, program, plan, shown) {
-            Ok(()) => Ok(text),
-            Err(error) => Err(error),
-        };
-    }
-    Ok(text)
-}
-
-/// What some words ask for, and whether threads met.
-fn words_told<R: Wait>(
-    alloc: Global,
-    gate: &ThreadGate<'_, R>,
-    shown: &RunShown,
-    words: &str,
-) -> Result<String, AllocError> {
-    let mut text = String::new(alloc);
-    for word in words.split_whitespace() {
-        match shown.add_word(&mut text, word) {
-            Ok(()) => {}
-            Err(error) => return Err(error),
-        }
-    }
-    match gate.add_meeting(&mut text) {
-        Ok(()) => Ok(text),
-        Err(error) => Err(error),
+        add_replay(answer, program, plan, shown)
     }
 }
 
 /// Adds what the replay of a run's journal comes to.
-fn add_replay(
-    alloc: Global,
-    text: &mut String,
-    program: &Program,
-    plan: &ThreadPlan<'_>,
-    shown: &RunShown,
-) -> Result<(), AllocError> {
-    let Ok(journal) = Journal::parse(alloc, &shown.journal) else {
-        return text.push_str(" no journal");
+fn add_replay(answer: &mut Answer, program: &Program, plan: &ThreadPlan<'_>, shown: &RunShown) {
+    let Ok(journal) = Journal::parse(answer.alloc, &shown.journal) else {
+        return answer.word(" no journal");
     };
-    match start(alloc, program, plan.entries, plan.initialized) {
-        Ok(Some(world)) => add_seen(text, replay(alloc, program, world, &journal), &shown.got),
-        Ok(None) => text.push_str(" no start"),
-        Err(error) => Err(error),
+    match start(answer.alloc, program, plan.entries, plan.initialized) {
+        Ok(Some(world)) => {
+            let replayed = replay(answer.alloc, program, world, &journal);
+            add_seen(answer, replayed, &shown.got)
+        }
+        Ok(None) => answer.word(" no start"),
+        Err(_) => answer.refuse(),
     }
 }
 
-fn add_seen(
-    text: &mut String,
-    answer: Result<Seen, ReplayFault>,
-    got: &[u8],
-) -> Result<(), AllocError> {
-    match answer {
+fn add_seen(answer: &mut Answer, replayed: Result<Seen, ReplayFault>, got: &[u8]) {
+    answer.word(" ");
+    match replayed {
         Ok(seen) => {
-            let count = seen.printed.count();
-            let word = if seen.printed.text_from(0) == got {
-                "same"
+            answer.show(&seen.printed.count());
+            answer.word(if seen.printed.text_from(0) == got {
+                " same"
             } else {
-                "another text"
-            };
-            write!(text, " {count} {word}")
+                " another text"
+            })
         }
-        Err(fault) => write!(text, " {fault:?}"),
+        Err(fault) => answer.debug(&fault),
     }
 }

@@ -3,6 +3,7 @@
 ghost use Rattle.std.specs.Prelude.{IfOk};
 ghost use Rattle.wave_scheduler.specs.Outcomes.{AreJudged};
 
+use crate::answer::Answer;
 use crate::threads::plan::halves;
 use crate::threads::worker_gates::{WorkerGate, WorkerRule};
 use initializer_analysis::forced::Forced;
@@ -24,27 +25,16 @@ const BUDGET: u64 = 1_000;
 ///
 /// Answered is a word for each class, its wave and the number that its first static field holds, or `none` where it is
 /// refused. Where none is settled it is why.
-pub fn answer<R: Threads + Wait + Sync>(
-    rt: &R,
-    alloc: Global,
-    program: &Program,
-    about: &str,
-) -> Result<String, AllocError> {
+pub fn ask<R: Threads + Wait + Sync>(rt: &R, answer: &mut Answer, program: &Program, about: &str) {
     if about == "here" {
-        return settled_here(alloc, program);
+        return settle_here(answer, program);
     }
     let (workers, word) = halves(about, " ");
     let workers = workers.parse::<u32>().unwrap_or(0);
     let gate = WorkerGate::new(rt, rule_of(word), workers);
-    let Ok(mut text) = settled_by(rt, alloc, program, workers, &gate) else {
-        return Err(AllocError);
-    };
-    if word.is_empty() {
-        return Ok(text);
-    }
-    match gate.add_counts(&mut text) {
-        Ok(()) => Ok(text),
-        Err(error) => Err(error),
+    settle_by(rt, answer, program, workers, &gate);
+    if !word.is_empty() {
+        gate.add_counts(answer)
     }
 }
 
@@ -63,55 +53,54 @@ fn verdicts_of(alloc: Global, program: &Program) -> Result<Verdicts, AllocError>
     judge(alloc, program, &Forced::none(alloc))
 }
 
-fn settled_by<R: Threads + Wait + Sync>(
+fn settle_by<R: Threads + Wait + Sync>(
     rt: &R,
-    alloc: Global,
+    answer: &mut Answer,
     program: &Program,
     workers: u32,
     gate: &WorkerGate<'_, R>,
-) -> Result<String, AllocError> {
+) {
+    let alloc = answer.alloc;
     match verdicts_of(alloc, program) {
-        Ok(verdicts) => told(
-            alloc,
+        Ok(verdicts) => add_settled(
+            answer,
             settle_all(rt, alloc, program, verdicts, BUDGET, workers, gate),
         ),
-        Err(error) => Err(error),
+        Err(_) => answer.refuse(),
     }
 }
 
-fn settled_here(alloc: Global, program: &Program) -> Result<String, AllocError> {
+fn settle_here(answer: &mut Answer, program: &Program) {
+    let alloc = answer.alloc;
     match verdicts_of(alloc, program) {
-        Ok(verdicts) => told(alloc, settle_all_here(alloc, program, verdicts, BUDGET)),
-        Err(error) => Err(error),
+        Ok(verdicts) => add_settled(answer, settle_all_here(alloc, program, verdicts, BUDGET)),
+        Err(_) => answer.refuse(),
     }
 }
 
-fn told(alloc: Global, answer: Result<Settled, WaveFault>) -> Result<String, AllocError> {
-    match answer {
-        Ok(settled) => words_of(alloc, &settled),
-        Err(fault) => fault.to_string(alloc),
+fn add_settled(answer: &mut Answer, settled: Result<Settled, WaveFault>) {
+    match settled {
+        Ok(settled) => add_words(answer, &settled),
+        Err(fault) => answer.show(&fault),
     }
 }
 
-fn words_of(alloc: Global, settled: &Settled) -> Result<String, AllocError> {
-    let mut words = String::new(alloc);
+fn add_words(answer: &mut Answer, settled: &Settled) {
     let count = u32::try_from(settled.verdicts.as_slice().len()).unwrap_or(0);
     for class in 0..count {
-        match add_word(&mut words, settled, class) {
-            Ok(()) => {}
-            Err(error) => return Err(error),
-        }
+        answer.separate(" ");
+        add_word(answer, settled, class);
     }
-    Ok(words)
 }
 
-fn add_word(words: &mut String, settled: &Settled, class: u32) -> Result<(), AllocError> {
-    if class > 0 {
-        words.push(' ')?;
-    }
+fn add_word(answer: &mut Answer, settled: &Settled, class: u32) {
     match (settled.verdicts.of_class(class), number_of(settled, class)) {
-        (Some(Verdict::Wave(wave)), Some(number)) => write!(words, "{wave}:{number}"),
-        _ => words.push_str("none"),
+        (Some(Verdict::Wave(wave)), Some(number)) => {
+            answer.show(&wave);
+            answer.word(":");
+            answer.show(&number)
+        }
+        _ => answer.word("none"),
     }
 }
 

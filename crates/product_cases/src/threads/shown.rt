@@ -1,8 +1,8 @@
 //! What runs of threads show.
 
+use crate::answer::{Answer, text_of};
 use init_engine::Ending;
 use std::alloc::{AllocError, Global};
-use std::str::from_utf8;
 use thread_runner::{Ended, RunFault};
 
 /// What a run of threads shows.
@@ -43,20 +43,15 @@ impl RunShown {
     }
 
     /// Adds what a word asks for, after a space where it is not the first.
-    pub fn add_word(&self, text: &mut String, word: &str) -> Result<(), AllocError> {
-        if !text.is_empty() {
-            text.push(' ')?;
-        }
+    pub fn add_word(&self, answer: &mut Answer, word: &str) {
+        answer.separate(" ");
         match word {
-            "end" => text.push_str(self.end),
-            "over" => text.push_str(over(self.end)),
-            "got" => text.push_str(text_of(&self.got)),
-            "journal" => text.push_str(text_of(&self.journal)),
-            "whole" => text.push_str(if self.is_whole { "whole" } else { "cut" }),
-            _ => {
-                let number = self.number(word);
-                write!(text, "{number}")
-            }
+            "end" => answer.word(self.end),
+            "over" => answer.word(over(self.end)),
+            "got" => answer.word(text_or_nothing(&self.got)),
+            "journal" => answer.word(text_or_nothing(&self.journal)),
+            "whole" => answer.word(if self.is_whole { "whole" } else { "cut" }),
+            _ => answer.show(&self.number(word)),
         }
     }
 
@@ -83,11 +78,11 @@ fn over(end: &'static str) -> &'static str {
     }
 }
 
-fn text_of(bytes: &[u8]) -> &str {
+fn text_or_nothing(bytes: &[u8]) -> &str {
     if bytes.is_empty() {
         return "nothing";
     }
-    from_utf8(bytes).unwrap_or("no text")
+    text_of(bytes)
 }
 
 fn without_journal(alloc: Global, end: &'static str, sent: u128, got: Vec<u8>) -> RunShown {

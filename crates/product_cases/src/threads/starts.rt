@@ -3,6 +3,7 @@
 ghost use Rattle.std.specs.Prelude.{◌≤◌, length};
 
 use crate::runs::entries_of;
+use classfile::ClassName;
 use init_engine::World;
 use init_engine::starting::{entry_classes, lazy_shared};
 use program::Program;
@@ -18,7 +19,9 @@ pub fn start(
     entries: &str,
     initialized: &str,
 ) -> Result<Option<World>, AllocError> {
-    let names = entries_of(alloc, entries)?;
+    let Ok(names) = entries_of(alloc, entries) else {
+        return Err(AllocError);
+    };
     match entry_classes(alloc, program, &names) {
         Ok(classes) => start_over(alloc, program, &classes, initialized),
         Err(_) => Ok(None),
@@ -54,12 +57,26 @@ fn initialize_all(
     shared: &mut Shared,
     list: &str,
 ) -> Result<bool, AllocError> {
-    let names = entries_of(alloc, list)?;
-    for name in &names {
-        match program.number_of(alloc, name) {
-            Ok(Some(class)) => initialize(alloc, shared, class)?,
+    match entries_of(alloc, list) {
+        Ok(names) => initialize_named(alloc, program, shared, &names),
+        Err(error) => Err(error),
+    }
+}
+
+fn initialize_named(
+    alloc: Global,
+    program: &Program,
+    shared: &mut Shared,
+    names: &[ClassName],
+) -> Result<bool, AllocError> {
+    for name in names {
+        let class = match program.number_of(alloc, name) {
+            Ok(Some(class)) => class,
             Ok(None) => return Ok(false),
             Err(error) => return Err(error),
+        };
+        if initialize(alloc, shared, class).is_err() {
+            return Err(AllocError);
         }
     }
     Ok(true)

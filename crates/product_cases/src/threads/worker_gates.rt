@@ -1,5 +1,6 @@
 //! Gates of workers.
 
+use crate::answer::Answer;
 use crate::threads::meeting::Meeting;
 use evaluator::outcome::Outcome;
 use evaluator::settling::settle;
@@ -45,20 +46,20 @@ impl<'a, R: Wait> WorkerGate<'a, R> {
 
     /// Adds how often it was asked, and how many classes workers and the caller settled; and whether all workers were
     /// inside, where they wait.
-    pub fn add_counts(&self, text: &mut String) -> Result<(), AllocError> {
-        for (name, count) in [
-            ("asked", &self.asked),
-            ("by workers", &self.by_workers),
-            ("by the caller", &self.by_caller),
-        ] {
-            let count = count.load(Ordering::SeqCst);
-            write!(text, " {count} {name}")?;
-        }
-        match self.rule {
-            WorkerRule::Meet => self.meeting.add_to(text, u64::from(self.workers)),
-            _ => Ok(()),
+    pub fn add_counts(&self, answer: &mut Answer) {
+        add_count(answer, &self.asked, " asked");
+        add_count(answer, &self.by_workers, " by workers");
+        add_count(answer, &self.by_caller, " by the caller");
+        if let WorkerRule::Meet = self.rule {
+            self.meeting.add_to(answer, u64::from(self.workers))
         }
     }
+}
+
+fn add_count(answer: &mut Answer, count: &AtomicU64, what: &str) {
+    answer.word(" ");
+    answer.show(&count.load(Ordering::SeqCst));
+    answer.word(what)
 }
 
 impl<'a, R: Wait + Sync> Gate for WorkerGate<'a, R> {
