@@ -1,4 +1,4 @@
--- Instructions in a row after each of which a thread goes on in one frame are a run.
+-- Instructions in a row after each of which a thread goes on above the same initializations are a run.
 use Rattle.std.proofs.Common.{◌≡◌, ℕ, zero, suc, ◌<◌, List, [], ◌∷◌, Option, Some, length, get_or, slice_get, map}
 use Rattle.std.proofs.Common.{slice_set}
 use Rattle.std.proofs.Common.{replicate, sym, ap, subst, ◌∙◌}
@@ -13,14 +13,12 @@ use Rattle.vm_state.specs.Output.{Print}
 use Rattle.vm_state.specs.SharedState.{SharedState}
 use Rattle.vm_state.specs.Shares.{shared_of}
 use Rattle.vm_state.specs.Stacks.{segment_of, levels_of, levels_in}
-use Rattle.semantics.specs.Moves.{Stand}
 use Rattle.semantics.specs.Steps.{Thread as DefinedThread, Going as IsGoingOn, follows, step_thread, maker_of}
 use Rattle.semantics.specs.Worlds.{World, Run, step_of, put_thread}
 use Rattle.program.specs.Tables.{Tables}
 use Rattle.machine.specs.Linked.{program_of}
-use Rattle.machine.specs.Table.{row}
-use Rattle.courses.specs.Courses.{Above, Advances, Course, above, over}
-use Rattle.courses.proofs.SmoothLemmas.{smooth_led}
+use Rattle.courses.specs.Courses.{Above, above, over}
+use Rattle.courses.specs.Passages.{GoesOn, Passage}
 use Rattle.init_engine.specs.declared.world.Thread.{Thread}
 use Rattle.init_engine.specs.declared.world.Thread.TheVariants.{Going, Ended}
 use Rattle.init_engine.specs.Numbering.{AreNumbered}
@@ -29,15 +27,14 @@ use Rattle.init_engine.specs.steps.Threads.{RunsHere}
 use Rattle.init_engine.proofs.SetLemmas.{get_set, set_same}
 use Rattle.init_engine.proofs.WorldSteps.{world_with, thread_at}
 
-advances_steps : (P : Tables) (t : ℕ) (fs gs : List Frame) (ls : List Level) (sh new : SharedState) →
-    Advances P t (maker_of t ls) (over fs sh) (over gs new) →
+goes_on_steps : (P : Tables) (t : ℕ) (fs gs : List Frame) (ls : List Level) (sh new : SharedState) →
+    GoesOn P t (maker_of t ls) (over fs sh) (over gs new) →
     step_thread (program_of P) t sh (IsGoingOn fs ls) ≡ Some (record { shared = new; thread = IsGoingOn gs ls })
 unfolding step_thread
-advances_steps P t [] gs ls sh new (leads, some) = cc
-advances_steps P t (f ∷ fs) [] ls sh new (leads, some) = absurd some
-advances_steps P t (f ∷ fs) (g ∷ gs) ls sh new (leads, some) =
-    ap (follows (program_of P) sh t (f ∷ fs) ls)
-    (smooth_led t (maker_of t ls) (row P f) sh (f ∷ fs) (Stand (g ∷ gs)) new leads)
+goes_on_steps P t [] gs ls sh new (leads, some) = cc
+goes_on_steps P t (f ∷ fs) [] ls sh new (leads, some) = absurd some
+goes_on_steps P t (f ∷ fs) (g ∷ gs) ls sh new (leads, some) =
+    ap (follows (program_of P) sh t (f ∷ fs) ls) leads
 
 -- ---- in the whole world
 
@@ -46,7 +43,7 @@ world_by sh threads = record { shared = sh; threads = threads }
 
 module _ (P : Tables) (t : ℕ) (ls : List Level) where
   runs_above : (n : ℕ) (threads : List DefinedThread) (a b : Above) →
-      slice_get threads t ≡ Some (IsGoingOn a.frames ls) → Course P t (maker_of t ls) n a b →
+      slice_get threads t ≡ Some (IsGoingOn a.frames ls) → Passage P t (maker_of t ls) n a b →
       Run (program_of P) (world_by a.shared threads) (replicate n t)
       (world_by b.shared (slice_set threads t (IsGoingOn b.frames ls)))
   runs_above zero threads a b stands same =
@@ -57,7 +54,7 @@ module _ (P : Tables) (t : ℕ) (ls : List Level) where
       let there = slice_set threads t middle in
       let stepped = ap (step_of (program_of P) (world_by a.shared threads) t) stands
       ∙ ap (put_thread (world_by a.shared threads) t)
-      (advances_steps P t a.frames m.frames ls a.shared m.shared leads) in
+      (goes_on_steps P t a.frames m.frames ls a.shared m.shared leads) in
       let rest = runs_above n there m b (get_set threads t (IsGoingOn a.frames ls) middle stands) more in (
         world_by m.shared there,
         stepped,
@@ -82,7 +79,7 @@ module _ (P : Tables) (n : ℕ) (threads : List Thread) (before after : SharedTa
       ∙ ap (λ (s : SharedTables). world_with (slice_set threads t old) s printed) (sym same))
 
   top_runs : (s r : Frames) → slice_get threads t ≡ Some (Going s) →
-      ((p : List Print) → Course P t (maker_of t (levels_of s)) n (above (segment_of s) before p)
+      ((p : List Print) → Passage P t (maker_of t (levels_of s)) n (above (segment_of s) before p)
       (above (segment_of r) after p)) → r.levels ≡ s.levels → RunsTo (Going r)
   top_runs s r stands run same =
       let left : Thread = Going r in
@@ -104,7 +101,7 @@ module _ (P : Tables) (n : ℕ) (threads : List Thread) (before after : SharedTa
   thread_runs (Going s) (Going r) stands numbered (run, number, levels) =
       let same : s.thread ≡ t = numbered t (Going s) stands in
       top_runs s r stands
-      (subst (λ k. (p : List Print) → Course P k (maker_of k (levels_of s)) n (above (segment_of s) before p)
+      (subst (λ k. (p : List Print) → Passage P k (maker_of k (levels_of s)) n (above (segment_of s) before p)
       (above (segment_of r) after p)) same run) levels
 
   pub world_runs : (old new : Thread) → t < length threads → old ≡ get_or threads t old → AreNumbered threads →

@@ -19,7 +19,7 @@ ghost use Rattle.vm_state.specs.declared.frame.Frame.{Frame as Held};
 ghost use Rattle.vm_state.specs.declared.initialization.Level.{Level};
 
 use crate::procedure::{Progress, step_thread};
-use courses::course::run_segment;
+use courses::passage::run_passage;
 use courses::step_table::StepTable;
 use machine::effects::actor_of;
 use program::Program;
@@ -346,7 +346,7 @@ fn run_top(
     let Some(segment) = &mut frames.segment else {
         return Ok(0);
     };
-    let count = run_segment(alloc, program, table, by, segment, shared, most)?;
+    let count = run_passage(alloc, program, table, by, segment, shared, most)?;
     Ok(count)
 }
 

@@ -8,7 +8,8 @@ use Rattle.vm_state.specs.Stacks.{segment_of, levels_of}
 use Rattle.semantics.specs.Programs.{Program}
 use Rattle.semantics.specs.Steps.{After, maker_of, step_thread}
 use Rattle.program.specs.Tables.{Tables}
-use Rattle.courses.specs.Courses.{Course, above}
+use Rattle.courses.specs.Courses.{above}
+use Rattle.courses.specs.Passages.{Passage}
 use Rattle.init_engine.specs.declared.world.Thread.{Thread}
 use Rattle.init_engine.specs.declared.world.Thread.TheVariants.{Going, Ended}
 use Rattle.init_engine.specs.declared.world.Turn.{Turn}
@@ -54,7 +55,7 @@ IsTurnOf P t EndedTurn old new = HasEndedNow old.thread × (stepped P t old ≡ 
 -- so many steps above the highest initialization
 abbrev pub TopRuns : Tables → ℕ → Frames → SharedTables → Frames → SharedTables → Type 0
 TopRuns P n old before new after =
-    ((p : List Print) → Course P old.thread (maker_of old.thread (levels_of old)) n (above (segment_of old) before p)
+    ((p : List Print) → Passage P old.thread (maker_of old.thread (levels_of old)) n (above (segment_of old) before p)
     (above (segment_of new) after p))
     × (new.thread ≡ old.thread) × (new.levels ≡ old.levels)
 
