@@ -211,6 +211,16 @@ books_still P start n h v j i k book same runs =
       place = subst (λ (ps : List Print). IsPlace ps i k) (sym (printed_same v h.world same)) book.place;
     }
 
+-- where memory is refused before anything is changed the book is as it was, and what is seen of it goes on
+pub books_refused : {P : Tables} {start : World} {n i k : ℕ} {h : Past} {p : Pages} {j : List (ℕ × ℕ)}
+    → IsBook P start n h i k → pages_of h i k ≡ p → j ≡ h.journal
+    → IsBook P start n (past_of h.world j h.limit) i k × PagesGoOn p (pages_of (past_of h.world j h.limit) i k)
+books_refused {P} {start} {n} {i} {k} {h} {j = j} book view same = (
+  books_still P start n h h.world j i k book refl same,
+  subst (λ (q : Pages). PagesGoOn q (pages_of (past_of h.world j h.limit) i k)) view
+      (pages_none h h.world j i k book.place refl refl),
+)
+
 -- a book with n steps of t more
 pub books_more : (P : Tables) (start : World) (before after : ℕ) (h : Past) (v : Standing) (j : List (ℕ × ℕ))
     (n t i k : ℕ) → IsBook P start before h i k → after ≡ before + n

@@ -1,12 +1,9 @@
-use Rattle.std.proofs.Common.{Some, ap, sym, subst, replicate, List}
-use Rattle.vm_state.specs.declared.frame.Frame.{Frame}
+use Rattle.std.proofs.Common.{Some, ap}
 use Rattle.vm_state.specs.Segments.{frames_of}
-use Rattle.semantics.specs.Worlds.{Run}
-use Rattle.machine.specs.Linked.{program_of}
 use Rattle.init_engine.specs.Turns.{world_of}
 use Rattle.thread_runner.specs.Fronts.{with_top}
 use Rattle.thread_runner.proofs.BookLemmas.{front_counts_if}
-use Rattle.thread_runner.proofs.FrontLemmas.{front_led}
+use Rattle.thread_runner.proofs.FrontLemmas.{front_led_to}
 use Rattle.thread_runner.proofs.book.Book.commit_on_front.Goals as goal
 
 pub count_steps-requires-clause-may : goal.count_steps-requires-clause-may
@@ -15,14 +12,9 @@ count_steps-requires-clause-may g c =
 
 pub count_steps-requires-clause-led : goal.count_steps-requires-clause-led
 count_steps-requires-clause-led g c =
-    let P = g.O.Origin.program in
-    let w = world_of c.args.self.now.past.world in
-    let t = c.args.thread in
-    let s = c.args.run in
-    subst (λ (fs : List Frame). Run (program_of P) w (replicate c.count-count.result t) (with_top w t fs))
-    (sym c.into_top.ensures.is)
-    (subst (λ k. Run (program_of P) w (replicate k t) (with_top w t s.to)) (sym c.count-count.ensures.is)
-    (front_led P w t s (c.fits_front.ensures.yes c.if-not-fits_front.false) c.into_top.ensures.leads))
+    front_led_to g.O.Origin.program (world_of c.args.self.now.past.world) c.args.thread c.count-count.result c.args.run
+    (frames_of c.into_top.result) (c.fits_front.ensures.yes c.if-not-fits_front.false) c.into_top.ensures.leads
+    c.into_top.ensures.is c.count-count.ensures.is
 
 pub returns-clause-answer : goal.returns-clause-answer
 returns-clause-answer g c =

@@ -1,11 +1,10 @@
-use Rattle.std.proofs.Common.{sym, subst, replicate, List}
+use Rattle.std.proofs.Common.{subst, List}
 use Rattle.vm_state.specs.declared.frame.Frame.{Frame}
-use Rattle.semantics.specs.Worlds.{Run}
-use Rattle.machine.specs.Linked.{program_of}
+use Rattle.vm_state.specs.Segments.{frames_of}
 use Rattle.init_engine.specs.Turns.{world_of}
 use Rattle.thread_runner.specs.Commits.{Grew}
 use Rattle.thread_runner.specs.Fronts.{with_top}
-use Rattle.thread_runner.proofs.FrontLemmas.{front_led}
+use Rattle.thread_runner.proofs.FrontLemmas.{front_led_to}
 use Rattle.thread_runner.proofs.book.Book.commit_run.Goals as goal
 
 pub take_steps-requires-clause-front : goal.take_steps-requires-clause-front
@@ -14,14 +13,9 @@ take_steps-requires-clause-front g c =
 
 pub take_steps-requires-clause-led : goal.take_steps-requires-clause-led
 take_steps-requires-clause-led g c =
-    let P = g.O.Origin.program in
-    let w = world_of c.args.self.now.past.world in
-    let t = c.args.thread in
-    let s = c.args.run in
-    subst (λ (fs : List Frame). Run (program_of P) w (replicate c.count-count.result t) (with_top w t fs))
-    (sym c.into_top.ensures.is)
-    (subst (λ k. Run (program_of P) w (replicate k t) (with_top w t s.to)) (sym c.count-count.ensures.is)
-    (front_led P w t s (c.fits_front.ensures.yes c.if-not-fits_front.false) c.into_top.ensures.leads))
+    front_led_to g.O.Origin.program (world_of c.args.self.now.past.world) c.args.thread c.count-count.result c.args.run
+    (frames_of c.into_top.result) (c.fits_front.ensures.yes c.if-not-fits_front.false) c.into_top.ensures.leads
+    c.into_top.ensures.is c.count-count.ensures.is
 
 pub returns-in-Ok-clause-answer : goal.returns-in-Ok-clause-answer
 returns-in-Ok-clause-answer g c =

@@ -8,8 +8,9 @@ use Rattle.thread_runner.specs.Commits.{IsCounted, PagesGoOn}
 use Rattle.thread_runner.specs.Kept.{Pages, steps_of}
 use Rattle.thread_runner.specs.steps.Advances.{counted}
 use Rattle.thread_runner.specs.steps.Landings.{MayLand, landed}
-use Rattle.thread_runner.proofs.BookLemmas.{books_more, books_still, counted_small, grows_by, lands_none, pages_none}
-use Rattle.thread_runner.proofs.BookLemmas.{pages_of, pages_on, past_of, schedule_grown, steps_counted, turn_run}
+use Rattle.thread_runner.proofs.BookLemmas.{books_more, books_refused, books_still, counted_small, grows_by}
+use Rattle.thread_runner.proofs.BookLemmas.{lands_none, pages_none, pages_of, pages_on, past_of, schedule_grown}
+use Rattle.thread_runner.proofs.BookLemmas.{steps_counted, turn_run}
 use Rattle.thread_runner.proofs.book.Book.count_steps.Goals as goal
 
 pub returns-in_err-turn-clause-goes_on : goal.returns-in_err-turn-clause-goes_on
@@ -33,17 +34,10 @@ returns-clause-goes_on g c =
 
 pub returns-in_err-reserve-clause-goes_on : goal.returns-in_err-reserve-clause-goes_on
 returns-in_err-reserve-clause-goes_on g c =
-    let b = c.self.inside in
-    subst (λ (p : Pages). PagesGoOn p (pages_of (past_of b.world c.reserve.new.self.items b.limit) b.prints b.bytes))
-    c.self.view_is
-    (pages_none (past_of b.world b.journal.items b.limit) b.world c.reserve.new.self.items b.prints b.bytes
-    c.self.invariant.place refl refl)
+    (books_refused c.self.invariant c.self.view_is c.reserve.ensures.items).1
 
 pub invariant_of-self : goal.invariant_of-self
-invariant_of-self g c =
-    let b = c.self.inside in
-    books_still g.O.Origin.program g.O.Origin.start b.steps (past_of b.world b.journal.items b.limit) b.world
-    c.reserve.new.self.items b.prints b.bytes c.self.invariant refl c.reserve.ensures.items
+invariant_of-self g c = (books_refused c.self.invariant c.self.view_is c.reserve.ensures.items).0
 
 pub invariant_of-self-in_err-turn : goal.invariant_of-self-in_err-turn
 invariant_of-self-in_err-turn g c =

@@ -8,7 +8,7 @@ use Rattle.init_engine.specs.Turns.{world_of}
 use Rattle.thread_runner.specs.Commits.{Grew, PagesGoOn}
 use Rattle.thread_runner.specs.Fronts.{with_top}
 use Rattle.thread_runner.specs.Kept.{Pages, steps_of}
-use Rattle.thread_runner.proofs.BookLemmas.{books_more, books_still, grows_none, pages_none, pages_of, pages_on}
+use Rattle.thread_runner.proofs.BookLemmas.{books_more, books_refused, grows_none, pages_none, pages_of, pages_on}
 use Rattle.thread_runner.proofs.BookLemmas.{past_of, schedule_grown}
 use Rattle.thread_runner.proofs.FrontLemmas.{put_there}
 use Rattle.thread_runner.proofs.book.Book.take_steps.Goals as goal
@@ -35,17 +35,10 @@ returns-clause-goes_on g c =
 
 pub returns-in_err-reserve-clause-goes_on : goal.returns-in_err-reserve-clause-goes_on
 returns-in_err-reserve-clause-goes_on g c =
-    let b = c.self.inside in
-    subst (λ (p : Pages). PagesGoOn p (pages_of (past_of b.world c.reserve.new.self.items b.limit) b.prints b.bytes))
-    c.self.view_is
-    (pages_none (past_of b.world b.journal.items b.limit) b.world c.reserve.new.self.items b.prints b.bytes
-    c.self.invariant.place refl refl)
+    (books_refused c.self.invariant c.self.view_is c.reserve.ensures.items).1
 
 pub invariant_of-self : goal.invariant_of-self
-invariant_of-self g c =
-    let b = c.self.inside in
-    books_still g.O.Origin.program g.O.Origin.start b.steps (past_of b.world b.journal.items b.limit) b.world
-    c.reserve.new.self.items b.prints b.bytes c.self.invariant refl c.reserve.ensures.items
+invariant_of-self g c = (books_refused c.self.invariant c.self.view_is c.reserve.ensures.items).0
 
 pub invariant_of-self-2 : goal.invariant_of-self-2
 invariant_of-self-2 g c =
