@@ -112,13 +112,15 @@ impl<O: Session, S: Sink> Desk<O, S> {
     {
         let mut desk = self;
         let mut tools = Tools::<O>::new(alloc);
-        for _ in 0..u64::MAX {
-            match tools.run_slice(alloc, program, desk, thread, u64::MAX) {
+        let mut left = desk.book.room();
+        'slices: while left > 0 {
+            match tools.run_slice(alloc, program, desk, thread, left) {
                 Ok((next, made)) => {
                     desk = next;
                     if made == 0 {
                         return Ok(desk);
                     }
+                    left -= made;
                 }
                 Err(sink) => return Err(sink),
             }

@@ -29,8 +29,8 @@ invariant_of-desk g c =
       fault = d.fault;
     }
 
-pub returns-in-Err : goal.returns-in-Err
-returns-in-Err g c =
+pub returns-in-Err-clause-err : goal.returns-in-Err-clause-err
+returns-in-Err-clause-err g c =
     let d = c.args.desk in
     lines_gone g.O.Origin.program g.O.Origin.start d.book.past d.book.sent g.O.Session.before (g.S.Sink.got d.sink)
     c.world-world.ensures.kept (c.world-world.ensures.prints (d.part c.if-desk.false)) d.sent
