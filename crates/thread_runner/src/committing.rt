@@ -6,6 +6,7 @@ use crate::advance::Commit;
 use crate::desk::{Desk, Next, Session};
 use crate::done_set::DoneSet;
 use crate::front::{FrontRun, FrontStretch};
+use crate::monitors::owns_of_locals;
 use crate::pace::sum_of;
 use program::Program;
 use sinks::Sink;
@@ -63,6 +64,16 @@ impl<O: Session, S: Sink> Desk<O, S> {
         match self.book.front(alloc, thread) {
             Ok(Some(frame)) => sum_of(&frame),
             Ok(None) | Err(_) => 0,
+        }
+    }
+
+    /// Whether a thread is in a monitor, as far as its innermost frame tells.
+    pub(crate) fn is_in_monitor(&self, alloc: Global, thread: u32) -> bool
+        requires { thread < length O.start.threads }
+    {
+        match self.book.front(alloc, thread) {
+            Ok(Some(frame)) => owns_of_locals(self.book.world().shared(), thread, &frame),
+            Ok(None) | Err(_) => false,
         }
     }
 

@@ -16,6 +16,7 @@ mod last;
 pub mod laws;
 mod local_step;
 mod made;
+mod monitors;
 pub mod origin;
 mod pace;
 pub mod replay;

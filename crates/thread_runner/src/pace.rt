@@ -32,7 +32,7 @@ pub(crate) struct Pace {
     /// How many it has made.
     commits: u32,
     /// How many steps more it does under the lock, another number each time: or else all its courses through a loop
-    /// might end at one place, while it is in a monitor that others wait for.
+    /// might end at one place, in a call from within a monitor that others wait for.
     more: u8,
 }
 
