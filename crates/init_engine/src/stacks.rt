@@ -1,6 +1,6 @@
 //! The stacks of a world's threads, one by one.
 
-ghost use Rattle.std.specs.Prelude.{◌≡◌, ◌≢◌, ◌<◌, true, false, Some, IfOk, length, slice_get};
+ghost use Rattle.std.specs.Prelude.{◌≡◌, ◌≢◌, ◌<◌, true, false, Some, IfOk, length, option_copied, slice_get};
 ghost use Rattle.vm_state.specs.declared.classes.ClassState.TheVariants.{Initialized};
 ghost use Rattle.init_engine.specs.Stacks.{IsStackOf, AreFrames, front_of, innermost_of};
 ghost use Rattle.init_engine.specs.Threads.{thread_of, HasNumber};
@@ -52,37 +52,28 @@ fn goes(thread: &Thread) -> bool
 }
 
 /// The innermost frame of a thread above its highest initialization, if there is one.
-fn front_copy(alloc: Global, thread: &Thread) -> Result<Option<Frame>, AllocError>
-    ensures { IfOk result (λ f. f ≡ innermost_of (Some (thread_of thread.now))) }
+fn innermost(thread: &Thread) -> Option<&Frame>
+    ensures { option_copied result ≡ innermost_of (Some (thread_of thread.now)) }
 {
     let Thread::Going(frames) = thread else {
-        return Ok(None);
-    };
-    let Some(segment) = &frames.segment else {
-        return Ok(None);
-    };
-    match segment.innermost.copy(alloc) {
-        Ok(frame) => Ok(Some(frame)),
-        Err(error) => Err(error),
-    }
-}
-
-/// Whether this is the innermost frame of a thread above its highest initialization.
-fn is_front_copy(thread: &Thread, front: &Frame) -> bool
-    ensures yes { result ≡ true → innermost_of (Some (thread_of thread.now)) ≡ Some front.now }
-    ensures no { result ≡ false → innermost_of (Some (thread_of thread.now)) ≢ Some front.now }
-{
-    let Thread::Going(frames) = thread else {
-        return false;
+        return None;
     };
     match &frames.segment {
-        Some(segment) => segment.innermost.is_same(front),
-        None => false,
+        Some(segment) => Some(&segment.innermost),
+        None => None,
     }
 }
 
 impl World {
     /// The innermost frame of a thread above its highest initialization, if there is one.
+    pub fn innermost(&self, thread: u32) -> Option<&Frame>
+        requires { thread < length self.now.threads }
+        ensures { option_copied result ≡ front_of (world_of self.now) thread }
+    {
+        innermost(&self.threads()[thread as usize])
+    }
+
+    /// A copy of it.
     ///
     /// # Errors
     /// `AllocError` where memory is refused.
@@ -90,7 +81,13 @@ impl World {
         requires { thread < length self.now.threads }
         ensures { IfOk result (λ f. f ≡ front_of (world_of self.now) thread) }
     {
-        front_copy(alloc, &self.threads()[thread as usize])
+        let Some(frame) = self.innermost(thread) else {
+            return Ok(None);
+        };
+        match frame.copy(alloc) {
+            Ok(copy) => Ok(Some(copy)),
+            Err(error) => Err(error),
+        }
     }
 
     /// Whether this is the innermost frame of a thread above its highest initialization.
@@ -99,7 +96,10 @@ impl World {
         ensures yes { result ≡ true → front_of (world_of self.now) thread ≡ Some front.now }
         ensures no { result ≡ false → front_of (world_of self.now) thread ≢ Some front.now }
     {
-        is_front_copy(&self.threads()[thread as usize], front)
+        match self.innermost(thread) {
+            Some(frame) => frame.is_same(front),
+            None => false,
+        }
     }
 
     /// The frames of a thread; none where it has ended.

@@ -58,22 +58,23 @@ impl<O: Session, S: Sink> Desk<O, S> {
     }
 
     /// A sum of the local variables of a thread's innermost frame, by which to see whether they stand.
-    pub(crate) fn sum_of_locals(&self, alloc: Global, thread: u32) -> u64
+    pub(crate) fn sum_of_locals(&self, thread: u32) -> u64
         requires { thread < length O.start.threads }
     {
-        match self.book.front(alloc, thread) {
-            Ok(Some(frame)) => sum_of(&frame),
-            Ok(None) | Err(_) => 0,
+        match self.book.world().innermost(thread) {
+            Some(frame) => sum_of(frame),
+            None => 0,
         }
     }
 
     /// Whether a thread is in a monitor, as far as its innermost frame tells.
-    pub(crate) fn is_in_monitor(&self, alloc: Global, thread: u32) -> bool
+    pub(crate) fn is_in_monitor(&self, thread: u32) -> bool
         requires { thread < length O.start.threads }
     {
-        match self.book.front(alloc, thread) {
-            Ok(Some(frame)) => owns_of_locals(self.book.world().shared(), thread, &frame),
-            Ok(None) | Err(_) => false,
+        let world = self.book.world();
+        match world.innermost(thread) {
+            Some(frame) => owns_of_locals(world.shared(), thread, frame),
+            None => false,
         }
     }
 
