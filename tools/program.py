@@ -15,8 +15,8 @@ import time
 ROOT = os.path.dirname(os.path.dirname(os.path.realpath(__file__)))
 OUT = f"{ROOT}/out"
 NAME = "preinit"
-# What the C library's heap is asked for, where a user asks for nothing: huge pages, and room for many at once. A start of
-# thousands of classes has a tenth of the page faults then, and some megabytes more are held.
+# What the C library's heap is asked for, where a user asks for nothing: huge pages, and room for many at once. A start
+# of thousands of classes has a tenth of the page faults then, and some megabytes more are held.
 HUGE_PAGES = "glibc.malloc.hugetlb=1:glibc.malloc.top_pad=67108864"
 # Exit statuses, above those of the program: nothing was built, and there is no rt.
 NOT_BUILT, NO_RT = 126, 127
