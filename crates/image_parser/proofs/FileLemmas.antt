@@ -95,15 +95,16 @@ after_fault (faults.Class index fault) items r f goal h one =
 after_fault faults.Order items r f goal h one =
     sym one ∙ ap (λ (z : One). after_files items (z >>= f)) h
 
-pub file_fails : (e : FilesFault) {n i : ℕ} (items : List ClassFile) (before : Option (List ℕ))
+pub file_fails : (e : FilesFault) (first : ℕ) {n i : ℕ} (items : List ClassFile) (before : Option (List ℕ))
     (bytes : List ℕ) {goal : Many}
-    → i < n → FailsFile e (file_at i before bytes) → after_files items (files_at (n - i) i before bytes) ≡ goal
+    → i < n → FailsFile e (file_at (first + i) before bytes)
+    → after_files items (files_at (n - i) (first + i) before bytes) ≡ goal
     → FailsFile e goal
 unfolding files_at
-file_fails e {n} {i} items before bytes {goal} lt h so_far =
+file_fails e first {n} {i} items before bytes {goal} lt h so_far =
     let k : n - i ≡ suc (n - (i + 1)) = omega arith in
-    let one : after_files items (files_at (suc (n - (i + 1))) i before bytes) ≡ goal = rw k at so_far in
-    after_fault e items (file_at i before bytes) (add_one (n - (i + 1)) i) goal h one
+    let one : after_files items (files_at (suc (n - (i + 1))) (first + i) before bytes) ≡ goal = rw k at so_far in
+    after_fault e items (file_at (first + i) before bytes) (add_one (n - (i + 1)) (first + i)) goal h one
 
 abbrev whole : List ClassFile → List ℕ → Many
 whole files rest = Ok (files, rest)
@@ -124,26 +125,28 @@ last_of items file =
     ap (λ (k : ℕ). option_map name_of (slice_get (items ++ file ∷ []) k)) many
     ∙ ap (λ (z : Option ClassFile). option_map name_of z) (last_at items file)
 
-pub next_file : {n i : ℕ} (items : List ClassFile) (bytes : List ℕ) {file : ClassFile} {after : List ℕ} {goal : Many}
-    → i < n → file_at i (last_name items) bytes ≡ Ok (file, after)
-    → after_files items (files_at (n - i) i (last_name items) bytes) ≡ goal
-    → after_files (items ++ file ∷ []) (files_at (n - (i + 1)) (i + 1) (last_name (items ++ file ∷ [])) after) ≡ goal
+pub next_file : (first : ℕ) {n i : ℕ} (items : List ClassFile) (bytes : List ℕ) {file : ClassFile} {after : List ℕ}
+    {goal : Many} → i < n → file_at (first + i) (last_name items) bytes ≡ Ok (file, after)
+    → after_files items (files_at (n - i) (first + i) (last_name items) bytes) ≡ goal
+    → after_files (items ++ file ∷ []) (files_at (n - (i + 1)) (first + (i + 1)) (last_name (items ++ file ∷ [])) after)
+    ≡ goal
 unfolding files_at
-next_file {n} {i} items bytes {file} {after} {goal} lt h so_far =
+next_file first {n} {i} items bytes {file} {after} {goal} lt h so_far =
     let k : n - i ≡ suc (n - (i + 1)) = omega arith in
-    let one : after_files items (files_at (n - i) i (last_name items) bytes)
-    ≡ after_files items (add_one (n - (i + 1)) i (file, after)) = rw (k, h) refl in
-    let named : after_files (items ++ file ∷ []) (files_at (n - (i + 1)) (i + 1) (last_name
+    let up : first + (i + 1) ≡ first + i + 1 = omega arith in
+    let one : after_files items (files_at (n - i) (first + i) (last_name items) bytes)
+    ≡ after_files items (add_one (n - (i + 1)) (first + i) (file, after)) = rw (k, h) refl in
+    let named : after_files (items ++ file ∷ []) (files_at (n - (i + 1)) (first + (i + 1)) (last_name
     (items ++ file ∷ [])) after)
-    ≡ after_files (items ++ file ∷ []) (files_at (n - (i + 1)) (i + 1) (Some (name_of file)) after) =
-    ap (λ (z : Option (List ℕ)). after_files (items ++ file ∷ []) (files_at (n - (i + 1)) (i + 1) z after))
-    (last_of items file) in
-    named ∙ sym (more items file (files_at (n - (i + 1)) (i + 1) (Some (name_of file)) after)) ∙ sym one ∙ so_far
+    ≡ after_files (items ++ file ∷ []) (files_at (n - (i + 1)) (first + i + 1) (Some (name_of file)) after) =
+    rw (up, last_of items file) refl in
+    named ∙ sym (more items file (files_at (n - (i + 1)) (first + i + 1) (Some (name_of file)) after)) ∙ sym one
+    ∙ so_far
 
-pub all_files : {n i : ℕ} (items : List ClassFile) (before : Option (List ℕ)) (bytes : List ℕ) {goal : Many}
-    → n ≤ i → after_files items (files_at (n - i) i before bytes) ≡ goal → goal ≡ Ok (items, bytes)
+pub all_files : {n i : ℕ} (first : ℕ) (items : List ClassFile) (before : Option (List ℕ)) (bytes : List ℕ) {goal : Many}
+    → n ≤ i → after_files items (files_at (n - i) first before bytes) ≡ goal → goal ≡ Ok (items, bytes)
 unfolding files_at
-all_files {n} {i} items before bytes {goal} le so_far =
+all_files {n} {i} first items before bytes {goal} le so_far =
     let k : n - i ≡ 0 = omega arith in
-    let one : after_files items (files_at (n - i) i before bytes) ≡ Ok (items ++ [], bytes) = rw k refl in
+    let one : after_files items (files_at (n - i) first before bytes) ≡ Ok (items ++ [], bytes) = rw k refl in
     sym so_far ∙ one ∙ ap (λ (z : List ClassFile). whole z bytes) (append-nil items)

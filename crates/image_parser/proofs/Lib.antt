@@ -1,4 +1,5 @@
 pub mod EachLemmas
+pub mod HalvesLemmas
 pub mod ReferencesLemmas
 pub mod HeldLemmas
 pub mod SameLemmas

@@ -1,6 +1,6 @@
 //! The class files of an image.
 
-ghost use Rattle.std.specs.Prelude.{◌≡◌, ◌⊎◌, None, Ok, Err, IfOk, IfErr};
+ghost use Rattle.std.specs.Prelude.{◌≡◌, ◌+◌, ◌<◌, ◌^◌, ◌⊎◌, None, Ok, Err, IfOk, IfErr};
 ghost use Rattle.loading.specs.Names.{name_of};
 ghost use Rattle.image_parser.specs.declared.fault.FilesFault.TheVariants.{Memory};
 ghost use Rattle.image_parser.specs.FileFaults.{AreFiles, FilesFail, GivesFile};
@@ -26,7 +26,7 @@ fn counted_at(bytes: &[u8]) -> Result<(&[u8], &[u8]), RegionFault>
 
 /// The bytes of a class file, after their count.
 #[tactic(auto, using(crate::proofs::FileLemmas::outside_fails))]
-fn sized_at(bytes: &[u8]) -> Result<(&[u8], &[u8]), FilesFault>
+pub(crate) fn sized_at(bytes: &[u8]) -> Result<(&[u8], &[u8]), FilesFault>
     ensures { GivesFile (λ x. (x.0.now, x.1.now)) result (sized_at bytes.now) }
 {
     match counted_at(bytes) {
@@ -36,7 +36,7 @@ fn sized_at(bytes: &[u8]) -> Result<(&[u8], &[u8]), FilesFault>
 }
 
 /// Whether a file's name comes after that of the last one.
-fn is_after(files: &[ClassFile], file: &ClassFile) -> bool
+pub(crate) fn is_after(files: &[ClassFile], file: &ClassFile) -> bool
     ensures { result ≡ is_after (last_name files.now) (name_of file.now) }
 {
     match files.last() {
@@ -86,14 +86,20 @@ fn file_at<'a>(
     Ok((file, rest))
 }
 
-/// A number of class files.
-fn files_at(alloc: Global, count: u32, bytes: &[u8]) -> Result<(Vec<ClassFile>, &[u8]), FilesFault>
-    ensures { GivesFile (λ x. (x.0.items, x.1.now)) result (files_at count 0 None bytes.now) }
+/// Class files of which the first has this place, whatever comes before it.
+pub(crate) fn files_at(
+    alloc: Global,
+    first: u32,
+    count: u32,
+    bytes: &[u8],
+) -> Result<(Vec<ClassFile>, &[u8]), FilesFault>
+    requires { first + count < 2 ^ 32 }
+    ensures { GivesFile (λ x. (x.0.items, x.1.now)) result (files_at count first None bytes.now) }
 {
     let mut files = Vec::new(alloc);
     let mut rest = bytes;
     for index in 0..count {
-        let (file, after) = file_at(alloc, index, files.as_slice(), rest)?;
+        let (file, after) = file_at(alloc, first + index, files.as_slice(), rest)?;
         files.push(file)?;
         rest = after;
     }
@@ -113,5 +119,5 @@ pub(crate) fn read_files(
     ensures text { IfOk result (λ x. Begins (AreFiles count) bytes.now x.0.items x.1.now) }
     ensures fault { IfErr result (λ x. (x ≡ Memory) ⊎ FilesFail count bytes.now x) }
 {
-    files_at(alloc, count, bytes)
+    files_at(alloc, 0, count, bytes)
 }

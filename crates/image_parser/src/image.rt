@@ -10,17 +10,20 @@ ghost use Rattle.image_format.specs.Regions.{ImageRegion as Told};
 ghost use Rattle.image_format.specs.Images.{ImageText, OldText, VersionText};
 ghost use Rattle.image_parser.specs.declared.image_fault.ImageFault.TheVariants.{Memory};
 ghost use Rattle.image_parser.specs.HeaderFaults.{IsSealed};
-ghost use Rattle.image_parser.specs.ImageFaults.{ImageFails, IsImage, IsLinked, PartsFail};
+ghost use denote.Param.Send.{IsSync};
+ghost use Rattle.image_parser.specs.ImageFaults.{HasFiles, ImageFails, IsImage, IsLinked, PartsFail};
 ghost use Rattle.image_parser.specs.ImageFaults.{PartsText};
 ghost use Rattle.image_parser.specs.TextOrFault.{TextOrFault};
 ghost use Rattle.image_parser.specs.reading.Frames.{FailsInEach, IsUnsealed};
 ghost use Rattle.image_parser.specs.Parsings.{IsOfFiles, IsParsed, told_in};
 
 use crate::files::read_files;
+use crate::halves::read_files_by_several;
 use crate::header::{is_sealed, parts_of, unsealed_parts};
 use crate::image_fault::ImageFault;
 use crate::regions::read_regions;
 use byteorder::{BigEndian, ByteOrder};
+use classfile::ClassFile;
 use image_format::version::Version;
 use program::{Program, link};
 use region_shape::regions::Regions;
@@ -49,11 +52,15 @@ pub fn parse(alloc: Global, bytes: &[u8]) -> Result<Parsed, ImageFault>
     of_bytes(alloc, bytes)
 }
 
-/// Does the same as `parse`. Where there is much to digest, another thread does that meanwhile.
+/// Does the same as `parse`. Where there is much to read, other threads read class files and digest all meanwhile.
 ///
 /// # Errors
 /// Those of `parse`.
-pub fn parse_by_two<R: Threads>(rt: &R, alloc: Global, bytes: &[u8]) -> Result<Parsed, ImageFault>
+pub fn parse_by_two<R: Threads + Sync>(
+    rt: &R,
+    alloc: Global,
+    bytes: &[u8],
+) -> Result<Parsed, ImageFault>
     ensures { IsParsed bytes.now result }
 {
     of_bytes_by_two(rt, alloc, bytes)
@@ -86,7 +93,11 @@ fn of_bytes(alloc: Global, bytes: &[u8]) -> Result<Parsed, ImageFault>
 }
 
 /// What the bytes of an image say, whose digest another thread may look at.
-fn of_bytes_by_two<R: Threads>(rt: &R, alloc: Global, bytes: &[u8]) -> Result<Parsed, ImageFault>
+fn of_bytes_by_two<R: Threads + Sync>(
+    rt: &R,
+    alloc: Global,
+    bytes: &[u8],
+) -> Result<Parsed, ImageFault>
     ensures text { IfOk result (λ parsed. VersionText parsed.version bytes.now parsed.program.family (told_in parsed)) }
     ensures program { IfOk result (λ parsed. IsProgram parsed.program) }
     ensures files { IfOk result (λ parsed. IsOfFiles parsed.program parsed.regions) }
@@ -103,7 +114,7 @@ fn of_bytes_by_two<R: Threads>(rt: &R, alloc: Global, bytes: &[u8]) -> Result<Pa
 
 /// What the bytes of an image say that has these parts, at whose digest another thread looks while its class files are
 /// linked. Regions are read once it is known to be right: their strings are hashed by it.
-fn of_unsealed<R: Threads>(
+fn of_unsealed<R: Threads + Sync>(
     rt: &R,
     alloc: Global,
     bytes: &[u8],
@@ -120,12 +131,12 @@ fn of_unsealed<R: Threads>(
         ensures { Decides result (IsSealed bytes.entry.now) }
     { is_sealed(bytes) };
     let link = move || -> Result<(Program, &[u8]), ImageFault>
-        requires { 4 ≤ length parts.now }
+        requires { IsSync R.row × (4 ≤ length parts.now) }
         ensures linked { IfOk result (λ x. IsLinked parts.entry.now x.0.family x.1.now) }
         ensures program { IfOk result (λ x. IsProgram x.0) }
         ensures own_strings { IfOk result (λ x. HasOwnStrings x.0) }
         ensures fault { IfErr result (λ x. (x ≡ Memory) ⊎ FailsInEach parts.entry.now x) }
-    { program_at(alloc, parts) };
+    { linked_program(alloc, parts, files_by_several(rt, alloc, parts)) };
     let (is_sealed, linked) = thread::join(rt, seal, link);
     if is_sealed {
         of_linked(alloc, version, linked, parts, digest_of(bytes))
@@ -144,21 +155,55 @@ fn count_at(parts: &[u8]) -> (u32, &[u8])
     (BigEndian::read_u32(front), rest)
 }
 
-/// The linked program of the class files at the front of an image's parts, and what stands after them.
-fn program_at(alloc: Global, parts: &[u8]) -> Result<(Program, &[u8]), ImageFault>
+/// The class files at the front of an image's parts, and what stands after them.
+fn files_in(alloc: Global, parts: &[u8]) -> Result<(Vec<ClassFile>, &[u8]), ImageFault>
     requires { 4 ≤ length parts.now }
+    ensures files { IfOk result (λ x. HasFiles parts.now x.0.items x.1.now) }
+    ensures fault { IfErr result (λ x. (x ≡ Memory) ⊎ FailsInEach parts.now x) }
+{
+    let (count, bytes) = count_at(parts);
+    match read_files(alloc, count, bytes) {
+        Ok(read) => Ok(read),
+        Err(fault) => Err(ImageFault::of_files(fault)),
+    }
+}
+
+/// Does what `files_in` does. Where there is much to read, several threads do.
+fn files_by_several<'a, R: Threads + Sync>(
+    rt: &R,
+    alloc: Global,
+    parts: &'a [u8],
+) -> Result<(Vec<ClassFile>, &'a [u8]), ImageFault>
+    requires { 4 ≤ length parts.now }
+    ensures files { IfOk result (λ x. HasFiles parts.now x.0.items x.1.now) }
+    ensures fault { IfErr result (λ x. (x ≡ Memory) ⊎ FailsInEach parts.now x) }
+{
+    let (count, bytes) = count_at(parts);
+    match read_files_by_several(rt, alloc, count, bytes) {
+        Ok(read) => Ok(read),
+        Err(fault) => Err(ImageFault::of_files(fault)),
+    }
+}
+
+/// The linked program of the class files that were read at the front of an image's parts, and what stands after them.
+fn linked_program<'a>(
+    alloc: Global,
+    parts: &[u8],
+    read: Result<(Vec<ClassFile>, &'a [u8]), ImageFault>,
+) -> Result<(Program, &'a [u8]), ImageFault>
+    requires files { IfOk read (λ x. HasFiles parts.now x.0.items x.1.now) }
+    requires fault { IfErr read (λ x. (x ≡ Memory) ⊎ FailsInEach parts.now x) }
     ensures linked { IfOk result (λ x. IsLinked parts.now x.0.family x.1.now) }
     ensures program { IfOk result (λ x. IsProgram x.0) }
     ensures own_strings { IfOk result (λ x. HasOwnStrings x.0) }
     ensures fault { IfErr result (λ x. (x ≡ Memory) ⊎ FailsInEach parts.now x) }
 {
-    let (count, bytes) = count_at(parts);
-    match read_files(alloc, count, bytes) {
+    match read {
         Ok((files, rest)) => match link(alloc, files) {
             Ok(program) => Ok((program, rest)),
             Err(fault) => Err(ImageFault::of_link(fault)),
         },
-        Err(fault) => Err(ImageFault::of_files(fault)),
+        Err(fault) => Err(fault),
     }
 }
 
@@ -176,7 +221,7 @@ fn of_parts(
     ensures files { IfOk result (λ parsed. IsOfFiles parsed.program parsed.regions) }
     ensures fault { IfErr result (λ x. (x ≡ Memory) ⊎ PartsFail version parts.now x) }
 {
-    let linked = program_at(alloc, parts);
+    let linked = linked_program(alloc, parts, files_in(alloc, parts));
     of_linked(alloc, version, linked, parts, digest)
 }
 

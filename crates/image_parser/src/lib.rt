@@ -4,6 +4,7 @@
 mod fault;
 mod files;
 mod flags;
+mod halves;
 mod header;
 mod image;
 mod image_fault;

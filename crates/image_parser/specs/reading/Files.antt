@@ -65,3 +65,13 @@ abbrev pub after_files : List ClassFile → Result (List ClassFile × List ℕ) 
     → Result (List ClassFile × List ℕ) FilesFault
 after_files files (Ok p) = Ok (files ++ p.0, p.1)
 after_files files (Err e) = Err e
+
+-- what stands after so many, of which the lengths alone are read
+unfoldable pub past : ℕ → List ℕ → Result (List ℕ) FilesFault
+past zero bytes = Ok bytes
+past (suc n) bytes = sized_at bytes >>= λ run. past n run.1
+
+-- the first, if there is one, comes after a name
+abbrev pub meets : Option (List ℕ) → List ClassFile → Bool
+meets before [] = true
+meets before (file ∷ files) = is_after before (name_of file)
