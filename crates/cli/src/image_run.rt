@@ -16,7 +16,7 @@ use crate::files::get;
 use crate::lazy::{Shown, shown_by_turns};
 use crate::{CommandFault, Files, Run, entries_of};
 use classfile::ClassName;
-use image_reader::{into_world, read, read_by_two, world};
+use image_reader::{into_world, read, read_by_several, world};
 use init_engine::{EntryFault, World};
 use object_graph::Image;
 use program::Program;
@@ -114,12 +114,12 @@ pub(crate) struct ImageStart {
     pub again: Option<World>,
 }
 
-/// Reads the image of a file, and answers the start from it, from the entries of a list. Another thread may look at the
-/// image's digest.
+/// Reads the image of a file, and answers the start from it, from the entries of a list. Several threads may read the
+/// image.
 ///
 /// # Errors
 /// The first refusal: the file, the image, an entry, or memory.
-pub(crate) fn start<R: Threads, F: Files>(
+pub(crate) fn start<R: Threads + Sync, F: Files>(
     rt: &R,
     alloc: Global,
     words: &Run<'_>,
@@ -130,14 +130,14 @@ pub(crate) fn start<R: Threads, F: Files>(
     ensures same { F.holds files.new ≡ F.holds files.old }
 {
     match get(alloc, words.image, files) {
-        Ok(bytes) => start_by_two(rt, alloc, words.entries, bytes, words.stacks),
+        Ok(bytes) => start_by_several(rt, alloc, words.entries, bytes, words.stacks),
         Err(refusal) => Err(refusal),
     }
 }
 
-/// The start from an image of these bytes, at whose digest another thread may look. The bytes are let go before the
-/// world is made.
-fn start_by_two<R: Threads>(
+/// The start from an image of these bytes, which several threads may read. The bytes are let go before the world is
+/// made.
+fn start_by_several<R: Threads + Sync>(
     rt: &R,
     alloc: Global,
     list: &str,
@@ -147,7 +147,7 @@ fn start_by_two<R: Threads>(
     ensures { IfOk result (λ start. IsBegunFromBytes bytes.items list.now start.program (world_of start.world)) }
 {
     let entries = entries_of(alloc, list)?;
-    match read_by_two(rt, alloc, bytes.as_slice()) {
+    match read_by_several(rt, alloc, bytes.as_slice()) {
         Ok(image) => {
             drop(bytes);
             started(alloc, image, entries.as_slice(), stacks)

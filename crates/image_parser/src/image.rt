@@ -56,14 +56,14 @@ pub fn parse(alloc: Global, bytes: &[u8]) -> Result<Parsed, ImageFault>
 ///
 /// # Errors
 /// Those of `parse`.
-pub fn parse_by_two<R: Threads + Sync>(
+pub fn parse_by_several<R: Threads + Sync>(
     rt: &R,
     alloc: Global,
     bytes: &[u8],
 ) -> Result<Parsed, ImageFault>
     ensures { IsParsed bytes.now result }
 {
-    of_bytes_by_two(rt, alloc, bytes)
+    of_bytes_by_several(rt, alloc, bytes)
 }
 
 /// Bytes are the text of one image or have one fault, and never both. A text is one of version 2 or one of version 1.
@@ -93,7 +93,7 @@ fn of_bytes(alloc: Global, bytes: &[u8]) -> Result<Parsed, ImageFault>
 }
 
 /// What the bytes of an image say, whose digest another thread may look at.
-fn of_bytes_by_two<R: Threads + Sync>(
+fn of_bytes_by_several<R: Threads + Sync>(
     rt: &R,
     alloc: Global,
     bytes: &[u8],

@@ -17,5 +17,5 @@ mod tag;
 mod unknown;
 mod values;
 
-pub use image::{Parsed, image_or_fault, parse, parse_by_two};
+pub use image::{Parsed, image_or_fault, parse, parse_by_several};
 pub use image_fault::ImageFault;

@@ -6,5 +6,5 @@ mod reading;
 mod start;
 
 pub use image_parser::ImageFault;
-pub use reading::{read, read_by_two};
+pub use reading::{read, read_by_several};
 pub use start::{into_world, world};

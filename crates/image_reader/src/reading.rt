@@ -11,7 +11,7 @@ ghost use Rattle.image_writer.specs.ImageTexts.{told_of};
 ghost use Rattle.image_reader.specs.Readings.{IsRead};
 
 use image_format::version::Version;
-use image_parser::{ImageFault, Parsed, parse, parse_by_two};
+use image_parser::{ImageFault, Parsed, parse, parse_by_several};
 use image_writer::image_text;
 use object_graph::{Image, gather};
 use std::alloc::{AllocError, Global};
@@ -34,14 +34,18 @@ pub fn read(alloc: Global, bytes: &[u8]) -> Result<Image, ImageFault>
     }
 }
 
-/// Does the same as `read`. Where there is much to digest, another thread does that meanwhile.
+/// Does the same as `read`. Where there is much to read, several threads do.
 ///
 /// # Errors
 /// Those of `read`.
-pub fn read_by_two<R: Threads>(rt: &R, alloc: Global, bytes: &[u8]) -> Result<Image, ImageFault>
+pub fn read_by_several<R: Threads + Sync>(
+    rt: &R,
+    alloc: Global,
+    bytes: &[u8],
+) -> Result<Image, ImageFault>
     ensures { IsRead bytes.now result }
 {
-    match parse_by_two(rt, alloc, bytes) {
+    match parse_by_several(rt, alloc, bytes) {
         Ok(parsed) => match image_of(alloc, parsed) {
             Ok(image) => Ok(image),
             Err(_) => Err(ImageFault::Memory),

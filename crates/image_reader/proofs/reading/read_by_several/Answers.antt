@@ -1,6 +1,6 @@
 use Rattle.std.proofs.Common.{arith}
 use Rattle.image_reader.proofs.ReadAgainLemmas.{image_read, image_refused, no_memory}
-use Rattle.image_reader.proofs.reading.read_by_two.Goals as goal
+use Rattle.image_reader.proofs.reading.read_by_several.Goals as goal
 
 pub image_of-requires : goal.image_of-requires
 image_of-requires g c =

@@ -2,7 +2,7 @@ use Rattle.std.proofs.Common.{◌∙◌, ℕ, List, subst}
 use Rattle.init_engine.specs.Turns.{world_of}
 use Rattle.cli.specs.ImageRuns.{IsSomeTextOf}
 use Rattle.cli.proofs.BeginsLemmas.{start_from_bytes}
-use Rattle.cli.proofs.image_run.start_by_two.Goals as goal
+use Rattle.cli.proofs.image_run.start_by_several.Goals as goal
 
 pub returns-in-Ok : goal.returns-in-Ok
 returns-in-Ok g c =

@@ -1,9 +1,0 @@
-use Rattle.std.proofs.Common.{arith}
-use Rattle.image_parser.proofs.ImageLaw.{is_parsed}
-use Rattle.image_parser.proofs.image.parse_by_two.Goals as goal
-
-pub returns : goal.returns
-returns g c =
-    is_parsed c.args.bytes.now (λ i. omega (arith, c.type_inv.bytes i)) c.of_bytes_by_two.result
-    c.of_bytes_by_two.ensures.text
-    c.of_bytes_by_two.ensures.program c.of_bytes_by_two.ensures.files c.of_bytes_by_two.ensures.fault
