@@ -19,10 +19,12 @@ const SHARE: usize = 65_536;
 /// The most threads.
 const MOST: usize = 8;
 
-/// How many threads read class files: as many as there are processors, and none for a few bytes.
-fn parts_of<R: Threads>(rt: &R, bytes: &[u8]) -> usize {
+/// How many threads read class files and implement methods: as many as there are processors, and one for few bytes.
+pub(crate) fn parts_of<R: Threads>(rt: &R, bytes: &[u8]) -> usize
+    ensures { 0 < result }
+{
     match thread::available_parallelism(rt) {
-        Ok(count) => count.get().min(MOST).min(bytes.len() / SHARE),
+        Ok(count) => count.get().min(MOST).min(bytes.len() / SHARE).max(1),
         Err(_) => 1,
     }
 }

@@ -18,14 +18,14 @@ ghost use Rattle.image_parser.specs.reading.Frames.{FailsInEach, IsUnsealed};
 ghost use Rattle.image_parser.specs.Parsings.{IsOfFiles, IsParsed, told_in};
 
 use crate::files::read_files;
-use crate::halves::read_files_by_several;
+use crate::halves::{parts_of, read_files_by_several};
 use crate::header::{is_sealed, parts_of, unsealed_parts};
 use crate::image_fault::ImageFault;
 use crate::regions::read_regions;
 use byteorder::{BigEndian, ByteOrder};
 use classfile::ClassFile;
 use image_format::version::Version;
-use program::{Program, link};
+use program::{Program, link, link_by};
 use region_shape::regions::Regions;
 use std::alloc::Global;
 use std::thread::{self, Threads};
@@ -136,7 +136,7 @@ fn of_unsealed<R: Threads + Sync>(
         ensures program { IfOk result (λ x. IsProgram x.0) }
         ensures own_strings { IfOk result (λ x. HasOwnStrings x.0) }
         ensures fault { IfErr result (λ x. (x ≡ Memory) ⊎ FailsInEach parts.entry.now x) }
-    { linked_program(alloc, parts, files_by_several(rt, alloc, parts)) };
+    { linked_by_several(rt, alloc, parts, files_by_several(rt, alloc, parts)) };
     let (is_sealed, linked) = thread::join(rt, seal, link);
     if is_sealed {
         of_linked(alloc, version, linked, parts, digest_of(bytes))
@@ -200,6 +200,29 @@ fn linked_program<'a>(
 {
     match read {
         Ok((files, rest)) => match link(alloc, files) {
+            Ok(program) => Ok((program, rest)),
+            Err(fault) => Err(ImageFault::of_link(fault)),
+        },
+        Err(fault) => Err(fault),
+    }
+}
+
+/// Does what `linked_program` does. Several threads implement methods.
+fn linked_by_several<'a, R: Threads + Sync>(
+    rt: &R,
+    alloc: Global,
+    parts: &[u8],
+    read: Result<(Vec<ClassFile>, &'a [u8]), ImageFault>,
+) -> Result<(Program, &'a [u8]), ImageFault>
+    requires files { IfOk read (λ x. HasFiles parts.now x.0.items x.1.now) }
+    requires fault { IfErr read (λ x. (x ≡ Memory) ⊎ FailsInEach parts.now x) }
+    ensures linked { IfOk result (λ x. IsLinked parts.now x.0.family x.1.now) }
+    ensures program { IfOk result (λ x. IsProgram x.0) }
+    ensures own_strings { IfOk result (λ x. HasOwnStrings x.0) }
+    ensures fault { IfErr result (λ x. (x ≡ Memory) ⊎ FailsInEach parts.now x) }
+{
+    match read {
+        Ok((files, rest)) => match link_by(rt, alloc, parts_of(rt, parts), files) {
             Ok(program) => Ok((program, rest)),
             Err(fault) => Err(ImageFault::of_link(fault)),
         },

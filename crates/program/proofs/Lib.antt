@@ -27,3 +27,4 @@ pub mod OneRuntimePoolLemmas
 pub mod OneImplementationLemmas
 pub mod OneProgramLemmas
 pub mod ZerosLemmas
+pub mod FramesLemmas

@@ -11,6 +11,7 @@ use Rattle.loading.specs.Names.{text_at}
 use Rattle.hierarchy.specs.steps.GrowingTexts.{KeepsNumbers}
 use Rattle.program.specs.RuntimePool.{IsRuntimeConstant}
 use Rattle.program.specs.Programs.{IsLinkedClass}
+use Rattle.program.specs.steps.Frames.{IsBareClass}
 
 pub constant_kept : {family : Family} {old new : List (List ℕ)} {f : ClassFile} {index : ℕ} {constant : Constant}
     {held : RuntimeConstant}
@@ -58,3 +59,29 @@ classes_kept family old new keeps [] (class ∷ classes) all = absurd all
 classes_kept family old new keeps (given ∷ givens) [] all = absurd all
 classes_kept family old new keeps (given ∷ givens) (class ∷ classes) all =
     (class_kept keeps all.0, classes_kept family old new keeps givens classes all.1)
+
+bare_class_kept : {family : Family} {old new : List (List ℕ)} {f : ClassFile} {class : Class} → KeepsNumbers old new
+    → IsBareClass family old f class
+    → IsBareClass family new f class
+bare_class_kept keeps was = record {
+  statics = was.statics;
+  signatures = was.signatures;
+  methods = was.methods;
+  initializer = was.initializer;
+  main = was.main;
+  runtime_pool = record {
+    count = was.runtime_pool.count;
+    each = λ index constant held at also.
+        constant_kept keeps (was.runtime_pool.each index constant held at also);
+  };
+}
+
+pub bare_classes_kept : (family : Family) (old new : List (List ℕ)) → KeepsNumbers old new
+    → (givens : List GivenClass) (classes : List Class)
+    → AllZip (λ (given : GivenClass) (class : Class). IsBareClass family old given.file class) givens classes
+    → AllZip (λ (given : GivenClass) (class : Class). IsBareClass family new given.file class) givens classes
+bare_classes_kept family old new keeps [] [] all = tt
+bare_classes_kept family old new keeps [] (class ∷ classes) all = absurd all
+bare_classes_kept family old new keeps (given ∷ givens) [] all = absurd all
+bare_classes_kept family old new keeps (given ∷ givens) (class ∷ classes) all =
+    (bare_class_kept keeps all.0, bare_classes_kept family old new keeps givens classes all.1)

@@ -8,3 +8,4 @@ pub mod Ahead
 pub mod Slots
 pub mod Sparse
 pub mod NamedConstants
+pub mod Frames

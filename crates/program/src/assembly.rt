@@ -3,7 +3,7 @@
 //! Each function makes one part and hands it to the next at once: one that held several parts where a call can fail
 //! would be dear to prove.
 
-ghost use Rattle.std.specs.Prelude.{◌≡◌, ◌⊎◌, [], ◌∷◌, ◌++◌, length, map, Some, Err, IfOk, IfErr, OnOk, IsOk};
+ghost use Rattle.std.specs.Prelude.{◌≡◌, ◌⊎◌, ◌<◌, [], ◌∷◌, ◌++◌, length, map, Some, Err, IfOk, IfErr, OnOk, IsOk};
 ghost use Rattle.std.specs.List.{AllZip};
 ghost use Rattle.loading.specs.declared.fault.LinkFault.{LinkFault as Fault};
 ghost use Rattle.loading.specs.declared.fault.LinkFault.TheVariants.{Memory};
@@ -12,11 +12,11 @@ ghost use Rattle.loading.specs.Files.{LinkFails, Links};
 ghost use Rattle.program.specs.declared.class.Class.{Class as ClassTables};
 ghost use Rattle.program.specs.Fields.{statics_of};
 ghost use Rattle.program.specs.Signatures.{AreSignatures};
-ghost use Rattle.program.specs.steps.ResolvedConstants.{HoldsClasses};
 ghost use Rattle.program.specs.steps.Slots.{AreSlots};
 ghost use Rattle.program.specs.steps.StaticNumbers.{AreStaticNumbersOf};
 ghost use Rattle.hierarchy.specs.Initialization.{AreOrders};
-ghost use Rattle.program.specs.Programs.{AreClasses, HasOwnStrings, IsLinkedClass, IsProgram, IsImplementation};
+ghost use Rattle.program.specs.Programs.{AreClasses, HasOwnStrings, IsProgram};
+ghost use Rattle.program.specs.steps.Frames.{AreBareClasses, IsBareClass, IsFrame};
 ghost use Rattle.program.specs.Programs.{files_of, static_field};
 ghost use Rattle.hierarchy.specs.Texts.{AreDistinct};
 ghost use Rattle.program.specs.RuntimePool.{IsRuntimePool};
@@ -25,9 +25,9 @@ ghost use Rattle.program.specs.steps.GrowingStrings.{Gains};
 
 use crate::class::{Class, Methods, RuntimePool, StaticFields};
 use crate::field_slots::field_slots_of;
-use crate::linked_file::LinkedFile;
+use crate::implementing::{implement, implement_by};
 use crate::linked_program::Program;
-use crate::methods::{initializer_of, main_of, methods_of};
+use crate::methods::{initializer_of, main_of};
 use crate::named_classes::NamedClasses;
 use crate::resolver::{Linker, Resolver};
 use crate::signature::{Signatures, signatures_of};
@@ -45,6 +45,7 @@ use loading::family_of;
 use loading::fault::LinkFault;
 use loading::given::GivenClass;
 use std::alloc::{AllocError, Global};
+use std::thread::Threads;
 
 /// Links class files into one program. Classes are numbered in the order of their names' bytes, whatever the order of
 /// the files (JVMS 5.3.5, 5.4).
@@ -68,34 +69,79 @@ pub fn link(alloc: Global, files: Vec<ClassFile>) -> Result<Program, LinkFault>
     ensures fault { IfErr result (λ x. (x ≡ Memory) ⊎ LinkFails files.items x) }
     ensures only_fault { (x : Fault) → LinkFails files.items x → (result ≡ Err x) ⊎ (result ≡ Err Memory) }
 {
+    match frame_of(alloc, files) {
+        Ok(frame) => implemented(alloc, frame),
+        Err(fault) => Err(fault),
+    }
+}
+
+/// Does what `link` does. So many threads implement methods.
+///
+/// # Errors
+/// Those of `link`.
+pub fn link_by<R: Threads + Sync>(
+    rt: &R,
+    alloc: Global,
+    threads: usize,
+    files: Vec<ClassFile>,
+) -> Result<Program, LinkFault>
+    requires { 0 < threads }
+    ensures family { IfOk result (λ program. IsFamilyOf files.items program.family) }
+    ensures program { IfOk result IsProgram }
+    ensures orders { IfOk result (λ program. AreOrders program.family program.orders) }
+    ensures own_strings { IfOk result HasOwnStrings }
+    ensures links { OnOk result (Links files.items) }
+    ensures only_links { Links files.items → IsOk result ⊎ (result ≡ Err Memory) }
+    ensures fault { IfErr result (λ x. (x ≡ Memory) ⊎ LinkFails files.items x) }
+    ensures only_fault { (x : Fault) → LinkFails files.items x → (result ≡ Err x) ⊎ (result ≡ Err Memory) }
+{
+    match frame_of(alloc, files) {
+        Ok(frame) => implemented_by(rt, alloc, threads, frame),
+        Err(fault) => Err(fault),
+    }
+}
+
+/// A program but for the methods of its classes.
+#[derive(Drop)]
+struct Frame {
+    hierarchy: Hierarchy,
+    slots: SlotTable,
+    tables: Tables,
+}
+
+/// What class files are linked to, but for methods.
+fn frame_of(alloc: Global, files: Vec<ClassFile>) -> Result<Frame, LinkFault>
+    ensures family { IfOk result (λ frame. IsFamilyOf files.items frame.hierarchy.family) }
+    ensures frame { IfOk result IsFrame }
+    ensures links { OnOk result (Links files.items) }
+    ensures only_links { Links files.items → IsOk result ⊎ (result ≡ Err Memory) }
+    ensures fault { IfErr result (λ x. (x ≡ Memory) ⊎ LinkFails files.items x) }
+    ensures only_fault { (x : Fault) → LinkFails files.items x → (result ≡ Err x) ⊎ (result ≡ Err Memory) }
+{
     match family_of(alloc, files) {
         Ok(family) => linked(alloc, family),
         Err(fault) => Err(fault),
     }
 }
 
-/// The program of a family, unless memory runs out.
-fn linked(alloc: Global, family: Family) -> Result<Program, LinkFault>
+/// What a family is linked to, but for methods, unless memory runs out.
+fn linked(alloc: Global, family: Family) -> Result<Frame, LinkFault>
     requires { Links (files_of family) }
-    ensures family { IfOk result (λ program. program.family ≡ family) }
-    ensures program { IfOk result IsProgram }
-    ensures orders { IfOk result (λ program. AreOrders program.family program.orders) }
-    ensures own_strings { IfOk result HasOwnStrings }
+    ensures family { IfOk result (λ frame. frame.hierarchy.family ≡ family) }
+    ensures frame { IfOk result IsFrame }
     ensures fault { IfErr result (λ x. x ≡ Memory) }
 {
-    match program_of(alloc, family) {
-        Ok(program) => Ok(program),
+    match with_hierarchy(alloc, family) {
+        Ok(frame) => Ok(frame),
         Err(_) => Err(LinkFault::Memory),
     }
 }
 
-/// The program of a family.
-fn program_of(alloc: Global, family: Family) -> Result<Program, AllocError>
+/// What a family is linked to, but for methods.
+fn with_hierarchy(alloc: Global, family: Family) -> Result<Frame, AllocError>
     requires { Links (files_of family) }
-    ensures family { IfOk result (λ program. program.family ≡ family) }
-    ensures program { IfOk result IsProgram }
-    ensures orders { IfOk result (λ program. AreOrders program.family program.orders) }
-    ensures own_strings { IfOk result HasOwnStrings }
+    ensures family { IfOk result (λ frame. frame.hierarchy.family ≡ family) }
+    ensures frame { IfOk result IsFrame }
 {
     match Hierarchy::new(alloc, family) {
         Ok(hierarchy) => with_slots(alloc, hierarchy),
@@ -103,13 +149,11 @@ fn program_of(alloc: Global, family: Family) -> Result<Program, AllocError>
     }
 }
 
-/// The program of a hierarchy.
-fn with_slots(alloc: Global, hierarchy: Hierarchy) -> Result<Program, AllocError>
+/// What the classes of a hierarchy are linked to, but for methods.
+fn with_slots(alloc: Global, hierarchy: Hierarchy) -> Result<Frame, AllocError>
     requires { Links (files_of hierarchy.family) }
-    ensures family { IfOk result (λ program. program.family ≡ hierarchy.family) }
-    ensures program { IfOk result IsProgram }
-    ensures orders { IfOk result (λ program. AreOrders program.family program.orders) }
-    ensures own_strings { IfOk result HasOwnStrings }
+    ensures family { IfOk result (λ frame. frame.hierarchy.family ≡ hierarchy.family) }
+    ensures frame { IfOk result IsFrame }
 {
     match SlotTable::of_family(alloc, hierarchy.family()) {
         Ok(slots) => with_tables(alloc, hierarchy, slots),
@@ -120,17 +164,19 @@ fn with_slots(alloc: Global, hierarchy: Hierarchy) -> Result<Program, AllocError
     }
 }
 
-/// The program of a hierarchy and of the slots of its classes.
-fn with_tables(alloc: Global, hierarchy: Hierarchy, slots: SlotTable) -> Result<Program, AllocError>
+/// What the classes of a hierarchy, with their slots, are linked to, but for methods.
+fn with_tables(alloc: Global, hierarchy: Hierarchy, slots: SlotTable) -> Result<Frame, AllocError>
     requires links { Links (files_of hierarchy.family) }
     requires slots { AreSlots hierarchy.family slots }
-    ensures family { IfOk result (λ program. program.family ≡ hierarchy.family) }
-    ensures program { IfOk result IsProgram }
-    ensures orders { IfOk result (λ program. AreOrders program.family program.orders) }
-    ensures own_strings { IfOk result HasOwnStrings }
+    ensures family { IfOk result (λ frame. frame.hierarchy.family ≡ hierarchy.family) }
+    ensures frame { IfOk result IsFrame }
 {
     match tables_of(alloc, &hierarchy, &slots) {
-        Ok(tables) => Ok(joined(hierarchy, slots, tables)),
+        Ok(tables) => Ok(Frame {
+            hierarchy,
+            slots,
+            tables,
+        }),
         Err(error) => {
             drop(slots);
             drop(hierarchy);
@@ -152,7 +198,7 @@ fn tables_of(alloc: Global, hierarchy: &Hierarchy, slots: &SlotTable) -> Result<
     requires { AreSlots hierarchy.now.family slots.now }
     ensures order_count { IfOk result (λ tables. length tables.orders ≡ length hierarchy.now.family) }
     ensures orders { IfOk result (λ tables. AreOrders hierarchy.now.family tables.orders) }
-    ensures classes { IfOk result (λ tables. AreClasses hierarchy.now.family tables.strings tables.classes.items) }
+    ensures classes { IfOk result (λ tables. AreBareClasses hierarchy.now.family tables.strings tables.classes.items) }
     ensures distinct { IfOk result (λ tables. AreDistinct tables.strings) }
     ensures strings { IfOk result (λ tables. AreFirsts (all_strings hierarchy.now.family) tables.strings) }
 {
@@ -169,7 +215,7 @@ fn with_classes(
 ) -> Result<Tables, AllocError>
     requires { AreSlots hierarchy.now.family slots.now }
     ensures orders { IfOk result (λ tables. tables.orders ≡ orders) }
-    ensures classes { IfOk result (λ tables. AreClasses hierarchy.now.family tables.strings tables.classes.items) }
+    ensures classes { IfOk result (λ tables. AreBareClasses hierarchy.now.family tables.strings tables.classes.items) }
     ensures distinct { IfOk result (λ tables. AreDistinct tables.strings) }
     ensures strings { IfOk result (λ tables. AreFirsts (all_strings hierarchy.now.family) tables.strings) }
 {
@@ -190,7 +236,7 @@ fn class_tables(
     slots: &SlotTable,
 ) -> Result<(Vec<Class>, Texts), AllocError>
     requires { AreSlots hierarchy.now.family slots.now }
-    ensures classes { IfOk result (λ tables. AreClasses hierarchy.now.family tables.1 tables.0.items) }
+    ensures classes { IfOk result (λ tables. AreBareClasses hierarchy.now.family tables.1 tables.0.items) }
     ensures distinct { IfOk result (λ tables. AreDistinct tables.1) }
     ensures strings { IfOk result (λ tables. AreFirsts (all_strings hierarchy.now.family) tables.1) }
 {
@@ -225,6 +271,56 @@ fn joined(hierarchy: Hierarchy, slots: SlotTable, tables: Tables) -> Program
     }
 }
 
+/// The program of a frame, whose methods are implemented.
+fn implemented(alloc: Global, frame: Frame) -> Result<Program, LinkFault>
+    requires { IsFrame frame }
+    ensures family { IfOk result (λ program. program.family ≡ frame.hierarchy.family) }
+    ensures program { IfOk result IsProgram }
+    ensures orders { IfOk result (λ program. AreOrders program.family program.orders) }
+    ensures own_strings { IfOk result HasOwnStrings }
+    ensures fault { IfErr result (λ x. x ≡ Memory) }
+{
+    let Frame {
+        hierarchy,
+        slots,
+        tables,
+    } = frame;
+    let mut tables = tables;
+    if implement(alloc, hierarchy.family(), &mut tables.classes) {
+        Ok(joined(hierarchy, slots, tables))
+    } else {
+        Err(LinkFault::Memory)
+    }
+}
+
+/// The program of a frame, whose methods so many threads implement.
+fn implemented_by<R: Threads + Sync>(
+    rt: &R,
+    alloc: Global,
+    threads: usize,
+    frame: Frame,
+) -> Result<Program, LinkFault>
+    requires threads { 0 < threads }
+    requires frame { IsFrame frame }
+    ensures family { IfOk result (λ program. program.family ≡ frame.hierarchy.family) }
+    ensures program { IfOk result IsProgram }
+    ensures orders { IfOk result (λ program. AreOrders program.family program.orders) }
+    ensures own_strings { IfOk result HasOwnStrings }
+    ensures fault { IfErr result (λ x. x ≡ Memory) }
+{
+    let Frame {
+        hierarchy,
+        slots,
+        tables,
+    } = frame;
+    let mut tables = tables;
+    if implement_by(rt, alloc, threads, hierarchy.family(), &mut tables.classes) {
+        Ok(joined(hierarchy, slots, tables))
+    } else {
+        Err(LinkFault::Memory)
+    }
+}
+
 /// What the machine uses of each class.
 fn classes_of(
     alloc: Global,
@@ -233,7 +329,7 @@ fn classes_of(
     strings: &mut Texts,
 ) -> Result<Vec<Class>, AllocError>
     requires { AreSlots hierarchy.now.family slots.now }
-    ensures classes { IfOk result (λ classes. AreClasses hierarchy.now.family strings.new classes.items) }
+    ensures classes { IfOk result (λ classes. AreBareClasses hierarchy.now.family strings.new classes.items) }
     ensures gains { OnOk result (Gains strings.old (all_strings hierarchy.now.family) strings.new) }
 {
     let numbers = static_numbers_of(alloc, hierarchy.family().classes())?;
@@ -252,7 +348,7 @@ fn linked_classes(
     linker: &Linker<'_>,
     strings: &mut Texts,
 ) -> Result<Vec<Class>, AllocError>
-    ensures classes { IfOk result (λ classes. AreClasses linker.now.hierarchy.now.family strings.new classes.items) }
+    ensures classes { IfOk result (λ classes. AreBareClasses linker.now.hierarchy.now.family strings.new classes.items) }
     ensures gains { OnOk result (Gains strings.old (all_strings linker.now.hierarchy.now.family) strings.new) }
 {
     match MemberResolver::new(alloc, linker.hierarchy) {
@@ -269,7 +365,7 @@ fn classes_with(
     strings: &mut Texts,
 ) -> Result<Vec<Class>, AllocError>
     requires { members.old ≡ linker.now.hierarchy.now }
-    ensures classes { IfOk result (λ classes. AreClasses linker.now.hierarchy.now.family strings.new classes.items) }
+    ensures classes { IfOk result (λ classes. AreBareClasses linker.now.hierarchy.now.family strings.new classes.items) }
     ensures gains { OnOk result (Gains strings.old (all_strings linker.now.hierarchy.now.family) strings.new) }
 {
     let mut classes = Vec::with_capacity(alloc, linker.hierarchy.family().classes().len())?;
@@ -287,7 +383,7 @@ fn add_classes(
 ) -> Result<(), AllocError>
     requires members { members.old ≡ linker.now.hierarchy.now }
     requires empty { classes.old.items ≡ [] }
-    ensures classes { OnOk result (AreClasses linker.now.hierarchy.now.family strings.new classes.new.items) }
+    ensures classes { OnOk result (AreBareClasses linker.now.hierarchy.now.family strings.new classes.new.items) }
     ensures gains { OnOk result (Gains strings.old (all_strings linker.now.hierarchy.now.family) strings.new) }
     ensures kept { members.new ≡ members.old }
 {
@@ -319,7 +415,7 @@ fn add_class(
     requires members { members.old ≡ linker.now.hierarchy.now }
     requires file { file_in linker.now.hierarchy.now.family number ≡ Some file.now }
     ensures class { OnOk result
-        ((class : ClassTables) × IsLinkedClass linker.now.hierarchy.now.family strings.new file.now class
+        ((class : ClassTables) × IsBareClass linker.now.hierarchy.now.family strings.new file.now class
         × (classes.new.items ≡ classes.old.items ++ class ∷ [])) }
     ensures gains { OnOk result (Gains strings.old (strings_of file.now) strings.new) }
     ensures kept { members.new ≡ members.old }
@@ -354,16 +450,16 @@ fn class_of(
 ) -> Result<Class, AllocError>
     requires members { members.old ≡ linker.now.hierarchy.now }
     requires file { file_in linker.now.hierarchy.now.family number ≡ Some file.now }
-    ensures class { IfOk result (IsLinkedClass linker.now.hierarchy.now.family strings.new file.now) }
+    ensures class { IfOk result (IsBareClass linker.now.hierarchy.now.family strings.new file.now) }
     ensures gains { OnOk result (Gains strings.old (strings_of file.now) strings.new) }
     ensures kept { members.new ≡ members.old }
 {
     let runtime_pool = runtime_pool_of(alloc, linker, members, strings, number, file)?;
-    match members_of(alloc, linker.hierarchy.family(), file, &runtime_pool) {
+    match members_of(alloc, file, &runtime_pool) {
         Ok(members) => Ok(Class {
             statics: members.statics,
             signatures: members.signatures,
-            methods: members.methods,
+            methods: Methods::none(alloc),
             initializer: initializer_of(file),
             main: main_of(file),
             runtime_pool,
@@ -399,40 +495,27 @@ fn runtime_pool_of(
     resolver.runtime_pool_of(alloc, members, strings)
 }
 
-/// The static fields and the methods of a class.
+/// The static fields of a class, and what its method descriptors say.
 #[derive(Drop)]
 struct MemberTables {
     statics: StaticFields,
     signatures: Signatures,
-    methods: Methods,
 }
 
-/// The static fields and the methods of a class with a run-time constant pool.
+/// The static fields of a class with a run-time constant pool, and what its method descriptors say.
 fn members_of(
     alloc: Global,
-    family: &Family,
     file: &ClassFile,
     runtime_pool: &RuntimePool,
 ) -> Result<MemberTables, AllocError>
-    requires { HoldsClasses family.now file.now runtime_pool.now }
     ensures statics { IfOk result (λ members. members.statics ≡ map (static_field file.now runtime_pool.now)
         (statics_of file.now)) }
     ensures signatures { IfOk result (λ members. AreSignatures file.now members.signatures) }
-    ensures methods { IfOk result (λ members. AllZip (IsImplementation family.now file.now) file.now.methods
-        members.methods) }
 {
     let statics = statics_of(alloc, file, runtime_pool)?;
     let signatures = signatures_of(alloc, file)?;
-    let linked = LinkedFile {
-        family,
-        file,
-        runtime_pool,
-        signatures: &signatures,
-    };
-    let methods = methods_of(alloc, &linked)?;
     Ok(MemberTables {
         statics,
         signatures,
-        methods,
     })
 }

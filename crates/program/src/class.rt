@@ -62,6 +62,24 @@ impl Model for Methods {
     ghost view = { λ s. s.methods.items };
 }
 
+impl Methods {
+    /// No methods yet.
+    pub(crate) fn none(alloc: Global) -> Methods
+        ensures { result ≡ [] }
+    {
+        Methods {
+            methods: Vec::new(alloc),
+        }
+    }
+
+    /// How many there are.
+    pub(crate) fn count(&self) -> usize
+        ensures { result ≡ length self.now }
+    {
+        self.methods.len()
+    }
+}
+
 /// The static fields of a class that have values, in the order of its file; those of type float and double have none.
 #[derive(Drop)]
 pub struct StaticFields {

@@ -12,6 +12,7 @@ mod equal_entries;
 mod field_kinds;
 mod field_slots;
 pub mod handler;
+mod implementing;
 mod instance_fields;
 pub mod laws;
 mod linked_file;
@@ -32,7 +33,7 @@ mod sparse;
 mod static_numbers;
 mod statics;
 
-pub use assembly::link;
+pub use assembly::{link, link_by};
 pub use built_in::method::{BuiltInMethod, Printed};
 pub use hierarchy::member::{Field, Method, Unresolved};
 pub use linked_program::Program;

@@ -2,8 +2,8 @@ use Rattle.std.proofs.Common.{◌≡◌, ◌<◌, ◌≤◌, List, Some, length,
 use Rattle.std.proofs.lemmas.List.{take_all}
 use Rattle.program.specs.declared.class.Class.{Class}
 use Rattle.loading.specs.declared.given.GivenClass.{GivenClass}
-use Rattle.program.specs.Programs.{IsLinkedClass}
-use Rattle.program.proofs.RuntimePoolGrowthLemmas.{classes_kept}
+use Rattle.program.specs.steps.Frames.{IsBareClass}
+use Rattle.program.proofs.RuntimePoolGrowthLemmas.{bare_classes_kept}
 use Rattle.program.specs.Strings.{strings_of}
 use Rattle.program.proofs.StringsLemmas.{gains_next, gains_nothing}
 use Rattle.loading.specs.Families.{file_of}
@@ -24,10 +24,10 @@ loop-number-preserved c =
     let added = c.in_ok-add_class.ensures.class in
     record {
       members = c.in_ok-add_class.ensures.kept ∙ c.loop-number.invariant.members;
-      classes = one_more (λ (given : GivenClass) (class : Class). IsLinkedClass family strings given.file class) family
+      classes = one_more (λ (given : GivenClass) (class : Class). IsBareClass family strings given.file class) family
           c.loop-number.classes.items
           c.add_class.new.classes.items i given added.0 within item
-          (classes_kept family c.loop-number.strings strings c.in_ok-add_class.ensures.gains.keeps
+          (bare_classes_kept family c.loop-number.strings strings c.in_ok-add_class.ensures.gains.keeps
           (take i family) c.loop-number.classes.items c.loop-number.invariant.classes)
           added.1 added.2;
       gains = gains_next (λ (given : GivenClass). strings_of given.file) family i given c.args.strings.now
