@@ -20,7 +20,7 @@ const SHARE: usize = 65_536;
 const MOST: usize = 8;
 
 /// How many threads read class files and implement methods: as many as there are processors, and one for few bytes.
-pub(crate) fn parts_of<R: Threads>(rt: &R, bytes: &[u8]) -> usize
+pub(crate) fn threads_for<R: Threads>(rt: &R, bytes: &[u8]) -> usize
     ensures { 0 < result }
 {
     match thread::available_parallelism(rt) {
@@ -118,5 +118,5 @@ pub(crate) fn read_files_by_several<'a, R: Threads + Sync>(
     ensures text { IfOk result (λ x. Begins (AreFiles count) bytes.now x.0.items x.1.now) }
     ensures fault { IfErr result (λ x. (x ≡ Memory) ⊎ FilesFail count bytes.now x) }
 {
-    files_by(rt, alloc, parts_of(rt, bytes), 0, count, bytes)
+    files_by(rt, alloc, threads_for(rt, bytes), 0, count, bytes)
 }

@@ -18,7 +18,7 @@ ghost use Rattle.image_parser.specs.reading.Frames.{FailsInEach, IsUnsealed};
 ghost use Rattle.image_parser.specs.Parsings.{IsOfFiles, IsParsed, told_in};
 
 use crate::files::read_files;
-use crate::halves::{parts_of, read_files_by_several};
+use crate::halves::{read_files_by_several, threads_for};
 use crate::header::{is_sealed, parts_of, unsealed_parts};
 use crate::image_fault::ImageFault;
 use crate::regions::read_regions;
@@ -222,7 +222,7 @@ fn linked_by_several<'a, R: Threads + Sync>(
     ensures fault { IfErr result (λ x. (x ≡ Memory) ⊎ FailsInEach parts.now x) }
 {
     match read {
-        Ok((files, rest)) => match link_by(rt, alloc, parts_of(rt, parts), files) {
+        Ok((files, rest)) => match link_by(rt, alloc, threads_for(rt, parts), files) {
             Ok(program) => Ok((program, rest)),
             Err(fault) => Err(ImageFault::of_link(fault)),
         },
