@@ -1,0 +1,5 @@
+// four entries, a sense-reversing barrier, a parallel prefix sum and a bitonic-ish relaxation; ends print in order by a ticket
+class W { static final int N = 4, M = 64; static int[] a = new int[M], b = new int[M]; static int cnt, ticket; static volatile boolean sense; static int seats; static volatile int next; static final Object L = new Object(); static { for (int i = 0; i < M; i++) a[i] = i * 37 % 101; } }
+public class Ba { boolean my; void bar() { my = !my; boolean last = false; synchronized (W.L) { if (++W.cnt == W.N) { W.cnt = 0; last = true; } } if (last) W.sense = my; else while (W.sense != my); }
+  public static void main(String[] x) { int me; synchronized (W.L) { me = W.seats++; } Ba q = new Ba(); for (int d = 1; d < W.M; d *= 2) { for (int i = me; i < W.M; i += W.N) W.b[i] = W.a[i] + (i >= d ? W.a[i - d] : 0); q.bar(); if (me == 0) { int[] t = W.a; W.a = W.b; W.b = t; } q.bar(); }
+   while (W.next != me); System.out.print(me); System.out.print(':'); for (int i = me * 16; i < me * 16 + 16; i++) { System.out.print(W.a[i]); System.out.print(i % 16 == 15 ? '\n' : ' '); } W.next = me + 1; } }

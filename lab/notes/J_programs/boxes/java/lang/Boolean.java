@@ -1,0 +1,1 @@
+package java.lang; public final class Boolean { public static final Boolean TRUE = new Boolean(true), FALSE = new Boolean(false); private final boolean v; private Boolean(boolean v) { this.v = v; } public static Boolean valueOf(boolean i) { return i ? TRUE : FALSE; } public boolean booleanValue() { return v; } }

@@ -1,0 +1,1 @@
+package java.lang; public final class Character { private final char v; private Character(char v) { this.v = v; } public static Character valueOf(char i) { return new Character(i); } public char charValue() { return v; } }

@@ -1,0 +1,1 @@
+package java.lang; public final class Long extends Number { private final long v; private Long(long v) { this.v = v; } public static Long valueOf(long i) { return new Long(i); } public int intValue() { return (int) v; } public long longValue() { return v; } }

@@ -1,0 +1,1 @@
+package java.lang; public interface AutoCloseable { void close() throws Exception; }

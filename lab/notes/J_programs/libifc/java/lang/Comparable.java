@@ -1,0 +1,1 @@
+package java.lang; public interface Comparable<T> { int compareTo(T o); }

@@ -1,0 +1,5 @@
+class C { static int n, fin, ids; static long[] slot = new long[64]; static final Object L = new Object(); static T root; static int depth(T t) { return t == null ? 0 : 1 + Math2.max(depth(t.l), depth(t.r)); } }
+class Math2 { static int max(int a, int b) { return a > b ? a : b; } }
+public class T { T l, r; final int k; T(int k) { this.k = k; } static T ins(T t, int k) { if (t == null) return new T(k); if (k < t.k) t.l = ins(t.l, k); else if (k > t.k) t.r = ins(t.r, k); return t; } static int size(T t, int lo, int hi) { if (t == null) return 0; if (t.k < lo || t.k > hi) throw new ArithmeticException(); return 1 + size(t.l, lo, t.k - 1) + size(t.r, t.k + 1, hi); }
+ public static void main(String[] a) { int me; synchronized (C.L) { me = C.ids++; } int h = me * 7919 + 1; for (int i = 0; i < 40; i++) { h = h * 1103515245 + 12345; synchronized (C.L) { C.root = ins(C.root, h >>> 8 & 0xffff); C.n++; } C.slot[me] += h; }
+   synchronized (C.L) { if (++C.fin == 64) { System.out.println(C.n); System.out.println(size(C.root, 0, 65535)); long s = 0; for (long v : C.slot) s += v; System.out.println(s); } } } }

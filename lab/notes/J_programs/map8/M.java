@@ -1,0 +1,8 @@
+// eight entries fill one striped hash map and a shared total; each key ends with a value that no order changes
+class HM { static final int S = 16; static final Object[] locks = new Object[S]; static final long[][] keys = new long[S][]; static final int[][] vals = new int[S][]; static final int[] n = new int[S]; static { for (int i = 0; i < S; i++) { locks[i] = new Object(); keys[i] = new long[4]; vals[i] = new int[4]; } }
+  static int h(long k) { k ^= k >>> 33; k *= 0xff51afd7ed558ccdL; k ^= k >>> 29; return (int) k; }
+  static void add(long k, int d) { int h = h(k), s = h & S - 1; synchronized (locks[s]) { if (n[s] * 2 > keys[s].length) { long[] ok = keys[s]; int[] ov = vals[s]; keys[s] = new long[ok.length * 2]; vals[s] = new int[ok.length * 2]; n[s] = 0; for (int i = 0; i < ok.length; i++) if (ok[i] != 0) put(s, ok[i], ov[i]); } put(s, k, d); } }
+  static void put(int s, long k, int d) { int m = keys[s].length - 1, i = h(k) >>> 8 & m; while (keys[s][i] != 0 && keys[s][i] != k) i = i + 1 & m; if (keys[s][i] == 0) { keys[s][i] = k; n[s]++; } vals[s][i] += d; } }
+class Ctl { static int seats, left = 8; static final Object L = new Object(); }
+public class M { public static void main(String[] a) { int me; synchronized (Ctl.L) { me = ++Ctl.seats; } long x = 12345; for (int i = 0; i < 700; i++) { x = x * 6364136223846793005L + 1442695040888963407L; HM.add((x >>> 50) + 1, me); HM.add(i * 3L + 1, 1); }
+  synchronized (Ctl.L) { if (--Ctl.left == 0) { int t = 0; long sum = 0, w = 0; for (int s = 0; s < HM.S; s++) { t += HM.n[s]; for (int i = 0; i < HM.keys[s].length; i++) if (HM.keys[s][i] != 0) { sum += HM.vals[s][i]; w += HM.keys[s][i] * HM.vals[s][i]; } } System.out.println(t); System.out.println(sum); System.out.println(w); } } } }

@@ -1,0 +1,2 @@
+package a;
+public class Base { protected int f = 1; static int made; int pk() { return 10; } protected int pr() { return 20; } public final int call() { return pk() * 100 + pr() + f; } private int priv() { return 3; } public int usePriv() { return priv(); } protected static int sp() { return ++made; } public interface Hook { int hook(Base b); } public static class Nest extends Base { public int f2 = super.f + 5; { made += 10; } int pk() { return 11 + super.pk(); } } }

@@ -1,0 +1,4 @@
+package b;
+import a.Base;
+public class Main { static final Sub S = new Sub(); static class Deep extends Sub { protected int pr() { return super.pr() * 2; } public int usePriv() { return super.usePriv() + 1; } }
+  public static void main(String[] x) { Base b = S; System.out.println(b.call()); System.out.println(b.usePriv()); System.out.println(S.p2()); System.out.println(new Base.Nest().call()); System.out.println(new Base.Nest().f2); System.out.println(S.hook(new Deep())); System.out.println(Sub.tot()); System.out.println(new Deep().usePriv()); System.out.println(((Base.Hook) b).hook(b)); Sub[] arr = {new Deep(), S}; Base[] up = arr; try { up[0] = new Base(); } catch (ArrayStoreException e) { System.out.println("ase"); } System.out.println(up[0] instanceof Sub); System.out.println(((Object) up) instanceof Base.Hook[]); } }
