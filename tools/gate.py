@@ -1,12 +1,13 @@
-"""The gate's own command, `rt ci`, as `./prove` starts it.
+"""The gate's own command, `rt ci`, as `./test` and `./prove` start it.
 
+  python3 tools/gate.py          at the top of the repository: the gate
   python3 tools/gate.py KEPT     in the copy of the crates that `./prove` made
 
-It is the same command but for how crates share processors and memory (`lanes.py`), and for two things more with a kit
-whose command keeps nothing, and takes each crate's checksum anew for each path that leads down to it, 24,000 of them in
-the end: a checksum is taken once, and what is proved of a crate lies in the folder KEPT by its checksum, which is of
-the kit and of all files that the proof read, and is taken from there. What fails is not kept, and tests never are. A
-run that proves all removes what is kept of other files.
+It is the same command but for how crates share processors and memory (`lanes.py`), and, where `./prove` starts it, for
+two things more with a kit whose command keeps nothing, and takes each crate's checksum anew for each path that leads
+down to it, 24,000 of them in the end: a checksum is taken once, and what is proved of a crate lies in the folder KEPT
+by its checksum, which is of the kit and of all files that the proof read, and is taken from there. What fails is not
+kept, and tests never are. A run that proves all removes what is kept of other files.
 """
 import os
 import shutil
@@ -65,11 +66,14 @@ def keep(rt, kept):
     return places
 
 
-def main(kept):
+def main(kept=None):
     rt = program.rt()
     if lanes.is_known(rt):
-        lanes.share(rt)
-    if keeps_by_itself(rt):
+        lanes.try_again_alone(rt)
+        # What `./prove` proves is mostly one chain, in which a second job helps on two processors, too.
+        if kept or not lanes.run_one_each(rt):
+            lanes.share(rt)
+    if not kept or keeps_by_itself(rt):
         return rt.main(["ci"])
     os.makedirs(kept, exist_ok=True)
     take_each_sum_once(rt)
@@ -83,4 +87,4 @@ def main(kept):
 
 
 if __name__ == "__main__":
-    sys.exit(main(sys.argv[1]))
+    sys.exit(main(*sys.argv[1:]))
