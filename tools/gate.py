@@ -102,13 +102,18 @@ def keep(rt, kept):
     return places
 
 
-def main(kept=None):
-    rt = program.rt()
+def share(rt, is_gate):
+    """Has the kit share processors and memory as this repository's crates need them, if it is a kit that is known."""
     if lanes.is_known(rt):
         lanes.try_again_alone(rt)
         # What `./prove` proves is mostly one chain, in which a second job helps on two processors, too.
-        if kept or not lanes.run_one_each(rt):
+        if not is_gate or not lanes.run_one_each(rt):
             lanes.share(rt)
+
+
+def main(kept=None):
+    rt = program.rt()
+    share(rt, is_gate=not kept)
     if kept:
         build_side_by_side(rt, keeps_for_the_gate(rt))
     if not kept or keeps_by_itself(rt):
