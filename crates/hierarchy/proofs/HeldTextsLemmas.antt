@@ -21,7 +21,7 @@ holds text key = pointwise nat_eq text key.items
 abbrev pub alike : Vec ℕ Global → Vec ℕ Global → Bool
 alike one other = pointwise nat_eq one.items other.items
 
-told : (one other : List ℕ) → one ≡ other → pointwise nat_eq one other ≡ true
+pub told : (one other : List ℕ) → one ≡ other → pointwise nat_eq one other ≡ true
 told one other same = by (pointwise nat_eq one other) refl
   where
     by : (b : Bool) → pointwise nat_eq one other ≡ b → pointwise nat_eq one other ≡ true

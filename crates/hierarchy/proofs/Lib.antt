@@ -1,5 +1,7 @@
 pub mod TextsLemmas
 pub mod HeldTextsLemmas
+pub mod TextNumbersLemmas
+pub mod BuiltInTextsLemmas
 pub mod MemberKeysLemmas
 pub mod MemberTablesLemmas
 pub mod FamiliesChainLemmas

@@ -1,6 +1,7 @@
 -- The numbers of the texts of classes, class after class.
 use Rattle.std.proofs.Common.{◌≡◌, ℕ, Bool, true, false, cond, eqb, List, [], ◌∷◌, ◌++◌, length, Option, Some, None}
-use Rattle.std.proofs.Common.{zero, suc, slice_get, get_or, inl, inr, refl, sym, ap, ◌∙◌, subst, arith}
+use Rattle.std.proofs.Common.{zero, suc, slice_get, get_or, inl, inr, refl, sym, ap, ◌∙◌, subst, arith, Bor, option_map}
+use Rattle.std.specs.Prelude.{slice_index_or, unwrap_or}
 use Rattle.std.proofs.lemmas.Bool.{eqb-true, eqb-false}
 use Rattle.std.proofs.lemmas.Option.{slice_get_within}
 use Rattle.std.proofs.lemmas.List.{length-append}
@@ -11,6 +12,7 @@ use Rattle.hierarchy.specs.MemberNames.{named_in}
 use Rattle.hierarchy.specs.declared.member_name.MemberName.{MemberName}
 use Rattle.hierarchy.specs.steps.MemberKeys.{AreNumbers}
 use Rattle.hierarchy.specs.Texts.{AreDistinct}
+use Rattle.hierarchy.specs.steps.BuiltInTexts.{built_in_texts}
 use Rattle.hierarchy.specs.steps.GrowingTexts.{KeepsNumbers}
 use Rattle.loading.specs.declared.given.GivenClass.{GivenClass}
 use Rattle.hierarchy.specs.declared.member_key.MemberKey.{MemberKey}
@@ -54,6 +56,7 @@ pub pools_with : (old texts : List (List ℕ)) (family : Family) (given : GivenC
 pools_with old texts family given pools new_pools numbers keeps distinct here pushed have = record {
   distinct = distinct;
   first = keeps 0 [] have.first;
+  built_in = λ i text at. keeps i text (have.built_in i text at);
   count = omega (
     arith,
     ap length pushed,
@@ -67,11 +70,12 @@ pools_with old texts family given pools new_pools numbers keeps distinct here pu
 
 -- ---- no classes
 
-pub no_pools : (texts pools : List (List ℕ)) → AreDistinct texts → slice_get texts 0 ≡ Some [] → pools ≡ []
-    → HavePools [] texts pools
-no_pools texts pools distinct first none = record {
+pub no_pools : (texts pools : List (List ℕ)) → AreDistinct texts → slice_get texts 0 ≡ Some []
+    → KeepsNumbers built_in_texts texts → pools ≡ [] → HavePools [] texts pools
+no_pools texts pools distinct first built_in none = record {
   distinct = distinct;
   first = first;
+  built_in = built_in;
   count = ap length none;
   pools = λ c f n of there. let clash : None ≡ Some f = of in absurd cc;
 }
@@ -119,3 +123,15 @@ module _ (family : Family) (table : MemberTable) (m : MemberName) (fits : IsTabl
       by (Some given) at =
           let pool = beside family table.pools.items m.class given (sym fits.count) at in
           absurd (cc (none, pool.1))
+
+-- ---- a text by its number
+
+pub text_or_none : (texts : List (List ℕ)) (n : ℕ) (found : Option (Bor (List ℕ))) (result other : Bor (List ℕ))
+    → option_map (λ (t : Bor (List ℕ)). t.now) found ≡ slice_get texts n → result ≡ unwrap_or found other
+    → other.now ≡ [] → result.now ≡ slice_index_or texts n []
+text_or_none [] n None result other at is none = ap (λ (t : Bor (List ℕ)). t.now) is ∙ none
+text_or_none [] n (Some t) result other at is none = absurd cc
+text_or_none (x ∷ xs) zero None result other at is none = absurd cc
+text_or_none (x ∷ xs) zero (Some t) result other at is none =
+    let same : t.now ≡ x = cc in ap (λ (t : Bor (List ℕ)). t.now) is ∙ same
+text_or_none (x ∷ xs) (suc n) found result other at is none = text_or_none xs n found result other at is none

@@ -26,3 +26,5 @@ pub mod FoundAhead
 pub mod Specials
 pub mod Selectable
 pub mod HeldTexts
+pub mod BuiltInTexts
+pub mod TextNumbers

@@ -1,7 +1,7 @@
 //! A family with what its members are found by.
 
-ghost use Rattle.std.specs.Prelude.{◌≡◌, ◌<◌, ℕ, Some, None, length, IfOk, IsSome, IsTrue, option_map, slice_get};
-ghost use Rattle.std.specs.Prelude.{option_to_list};
+ghost use Rattle.std.specs.Prelude.{◌≡◌, ◌<◌, ℕ, [], Some, None, length, IfOk, IsSome, IsTrue, option_map, slice_get};
+ghost use Rattle.std.specs.Prelude.{option_to_list, slice_index_or};
 ghost use Rattle.built_in.specs.declared.class_id.BuiltIn.{BuiltIn as Top};
 ghost use Rattle.hierarchy.specs.steps.NearestMembers.{AreNearest};
 ghost use Rattle.std.specs.List.{Contains};
@@ -11,6 +11,7 @@ ghost use Rattle.loading.specs.Families.{IsFamily, superclass_in, superclasses_i
 ghost use Rattle.hierarchy.specs.steps.HierarchyTables.{wanted_in};
 ghost use Rattle.hierarchy.specs.steps.MemberTables.{IsTableOf};
 ghost use Rattle.built_in.specs.Keys.{NameAndType};
+ghost use Rattle.built_in.specs.Methods.{key_of_member};
 ghost use Rattle.hierarchy.specs.steps.MemberKeys.{IsLookup, AreNumbers};
 ghost use Rattle.hierarchy.specs.MemberLookup.{flags_in, is_inherited, key_in, member_flags};
 ghost use Rattle.hierarchy.specs.MemberNames.{text_in, named_in};
@@ -24,6 +25,7 @@ use crate::reach_table::Reach;
 use crate::text_state::TextState;
 use crate::wanted::Wanted;
 use built_in::class_id::BuiltIn;
+use built_in::method::BuiltInMethod;
 use classfile::ClassFile;
 use classfile::flags::{PRIVATE, STATIC, has_flag};
 use loading::family::Family;
@@ -86,11 +88,20 @@ impl Hierarchy {
         &self.family
     }
 
-    /// The numbers of a name and a descriptor. Without numbers no given class has such a member.
-    pub(crate) fn key_of(&self, name: &[u8], descriptor: &[u8]) -> Option<MemberKey>
-        ensures { IsLookup self.now.texts (record { name = name.now; descriptor = descriptor.now }) result }
+    /// The text of a number, or no bytes.
+    pub(crate) fn text_of(&self, number: usize) -> &[u8]
+        ensures { result.now ≡ slice_index_or self.now.texts number [] }
     {
-        self.table.key_of(name, descriptor)
+        let table = &self.table;
+        table.text(number)
+    }
+
+    /// The numbers of what a built-in method is called.
+    pub(crate) fn built_in_key(&self, member: BuiltInMethod) -> MemberKey
+        ensures { AreNumbers self.now.texts (key_of_member member) result }
+    {
+        let table = &self.table;
+        table.built_in_key(member)
     }
 
     /// The superclass of a class.

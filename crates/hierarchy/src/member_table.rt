@@ -1,61 +1,51 @@
 //! The names and descriptors of the members of a family by number.
 
 ghost use Rattle.std.specs.Prelude.{◌≡◌, ◌∷◌, ◌++◌, [], IfOk, OnOk, Some, option_copied, slice_get};
+ghost use Rattle.std.specs.Prelude.{slice_index_or};
 ghost use Rattle.loading.specs.Families.{Family};
-ghost use Rattle.hierarchy.specs.steps.MemberKeys.{AreNumbers, IsLookup};
+ghost use Rattle.built_in.specs.Methods.{key_of_member};
+ghost use Rattle.hierarchy.specs.steps.MemberKeys.{AreNumbers};
 ghost use Rattle.hierarchy.specs.steps.MemberTables.{HavePools, IsTableOf};
 ghost use Rattle.hierarchy.specs.MemberNames.{named_in};
 
+use crate::built_in_texts::built_in_key;
+use crate::interner::Interner;
 use crate::member_key::MemberKey;
 use crate::member_name::MemberName;
+use crate::numbered_texts::NumberedTexts;
 use crate::pool_texts::PoolTexts;
-use crate::text_state::{TextState, has_few};
-use crate::texts::Texts;
+use crate::text_state::TextState;
+use built_in::method::BuiltInMethod;
 use loading::given::GivenClass;
 use std::alloc::{AllocError, Global};
 
 /// The texts of the classes of a family by number.
 pub(crate) struct MemberTable {
-    texts: Texts,
+    texts: NumberedTexts,
     /// By class: the numbers of its file's texts.
     pools: Vec<PoolTexts>,
+    later: TextState,
 }
 
 // By hand, since a derived one is proved anew wherever one is let go.
 impl Drop for MemberTable {
     fn drop(self) {
-        let MemberTable { texts: _, pools: _ } = self;
+        let MemberTable {
+            texts: _,
+            pools: _,
+            later: _,
+        } = self;
     }
 }
 
-impl MemberTable {
-    /// The table of these classes by their numbers.
-    pub(crate) fn of_classes(alloc: Global, classes: &[GivenClass]) -> Result<Self, AllocError>
-        ensures { IfOk result (IsTableOf classes.now) }
-    {
-        let texts = Texts::with_empty(alloc)?;
-        let mut table = MemberTable {
-            texts,
-            pools: Vec::new(alloc),
-        };
-        match table.add_all(alloc, classes) {
-            Ok(()) => Ok(table),
-            Err(error) => Err(error),
-        }
-    }
+/// The same while classes come in.
+#[derive(Drop)]
+struct GrowingTable {
+    texts: Interner,
+    pools: Vec<PoolTexts>,
+}
 
-    /// Gives the texts of all classes numbers. Unless they are few, they are hashed by a digest of them all then.
-    fn add_all(&mut self, alloc: Global, classes: &[GivenClass]) -> Result<(), AllocError>
-        requires { HavePools [] self.old.texts self.old.pools.items }
-        ensures { OnOk result (HavePools classes.now self.new.texts self.new.pools.items) }
-    {
-        self.add_classes(alloc, classes)?;
-        if has_few(classes) {
-            return Ok(());
-        }
-        self.texts.hash_by_all(alloc, &[])
-    }
-
+impl GrowingTable {
     /// Gives the texts of all classes numbers.
     fn add_classes(&mut self, alloc: Global, classes: &[GivenClass]) -> Result<(), AllocError>
         requires { HavePools [] self.old.texts self.old.pools.items }
@@ -96,18 +86,52 @@ impl MemberTable {
         Ok(())
     }
 
-    /// What the texts are hashed by.
-    pub(crate) fn text_state(&self) -> TextState {
-        self.texts.state()
+    /// The table, once all classes came in.
+    fn finish(self, alloc: Global, classes: &[GivenClass]) -> Result<MemberTable, AllocError>
+        requires { HavePools classes.now self.texts self.pools.items }
+        ensures { IfOk result (IsTableOf classes.now) }
+    {
+        let GrowingTable { texts, pools } = self;
+        let later = texts.later_state(classes);
+        let texts = texts.into_texts(alloc)?;
+        Ok(MemberTable {
+            texts,
+            pools,
+            later,
+        })
+    }
+}
+
+impl MemberTable {
+    /// The table of these classes by their numbers.
+    pub(crate) fn of_classes(alloc: Global, classes: &[GivenClass]) -> Result<Self, AllocError>
+        ensures { IfOk result (IsTableOf classes.now) }
+    {
+        let texts = Interner::new(alloc)?;
+        let pools = Vec::new(alloc);
+        let mut table = GrowingTable { texts, pools };
+        table.add_classes(alloc, classes)?;
+        table.finish(alloc, classes)
     }
 
-    /// The numbers of a name and a descriptor, if both have some.
-    pub(crate) fn key_of(&self, name: &[u8], descriptor: &[u8]) -> Option<MemberKey>
-        ensures { IsLookup self.now.texts (record { name = name.now; descriptor = descriptor.now }) result }
+    /// What texts that come later may be hashed by.
+    pub(crate) fn text_state(&self) -> TextState {
+        self.later
+    }
+
+    /// The text of a number, or no bytes.
+    pub(crate) fn text(&self, number: usize) -> &[u8]
+        ensures { result.now ≡ slice_index_or self.now.texts number [] }
     {
-        let name = self.texts.number(name)?;
-        let descriptor = self.texts.number(descriptor)?;
-        Some(MemberKey { name, descriptor })
+        self.texts.text(number).unwrap_or(&[])
+    }
+
+    /// The numbers of what a built-in method is called.
+    pub(crate) fn built_in_key(&self, member: BuiltInMethod) -> MemberKey
+        ensures { (family : Family) → IsTableOf family self.now
+            → AreNumbers self.now.texts (key_of_member member) result }
+    {
+        built_in_key(member)
     }
 
     /// The numbers of what a member is called. A number of no class has no texts.

@@ -10,8 +10,8 @@ ghost use Rattle.hierarchy.specs.steps.GrowingTexts.{KeepsNumbers};
 ghost use Rattle.hierarchy.specs.steps.MemberKeys.{AreNumbers};
 ghost use Rattle.hierarchy.specs.steps.PoolTexts.{AreTextNumbers};
 
+use crate::interner::Interner;
 use crate::member_key::MemberKey;
-use crate::texts::Texts;
 use classfile::{ClassFile, Constant};
 use std::alloc::{AllocError, Global};
 use std::marker::Model;
@@ -32,7 +32,7 @@ impl Model for PoolTexts {
 }
 
 /// The number of a constant's text, which gets one if it had none.
-fn number_of(alloc: Global, texts: &mut Texts, constant: &Constant) -> Result<usize, AllocError>
+fn number_of(alloc: Global, texts: &mut Interner, constant: &Constant) -> Result<usize, AllocError>
     requires { slice_get texts.old 0 ≡ Some [] }
     ensures number { IfOk result (λ n. slice_get texts.new n ≡ Some (unwrap_or (utf8_in (Some constant.now)) [])) }
     ensures keeps { KeepsNumbers texts.old texts.new }
@@ -47,7 +47,7 @@ fn number_of(alloc: Global, texts: &mut Texts, constant: &Constant) -> Result<us
 /// Adds the numbers of the texts of a class file's constants.
 fn add_numbers(
     alloc: Global,
-    texts: &mut Texts,
+    texts: &mut Interner,
     file: &ClassFile,
     numbers: &mut Vec<usize>,
 ) -> Result<(), AllocError>
@@ -72,7 +72,7 @@ impl PoolTexts {
     /// Where memory runs out; each text that had a number keeps it.
     pub(crate) fn of_file(
         alloc: Global,
-        texts: &mut Texts,
+        texts: &mut Interner,
         file: &ClassFile,
     ) -> Result<Self, AllocError>
         requires { slice_get texts.old 0 ≡ Some [] }

@@ -38,10 +38,11 @@ impl Hierarchy {
         ensures name { sought_name result ≡ named_in self.now.family member }
         ensures lookup { IsLookup self.now.texts (sought_name result) result.key }
     {
+        let key = self.key(member);
         Sought {
-            name: self.text(member.class, member.name),
-            descriptor: self.text(member.class, member.descriptor),
-            key: Some(self.key(member)),
+            name: self.text_of(key.name),
+            descriptor: self.text_of(key.descriptor),
+            key: Some(key),
         }
     }
 
@@ -50,12 +51,10 @@ impl Hierarchy {
         ensures name { sought_name result ≡ key_of_member member }
         ensures lookup { IsLookup self.now.texts (sought_name result) result.key }
     {
-        let name = member.name().as_bytes();
-        let descriptor = member.descriptor().as_bytes();
         Sought {
-            name,
-            descriptor,
-            key: self.key_of(name, descriptor),
+            name: member.name().as_bytes(),
+            descriptor: member.descriptor().as_bytes(),
+            key: Some(self.built_in_key(member)),
         }
     }
 }

@@ -90,7 +90,7 @@ impl Hierarchy {
         ensures { result ≡ list_any (λ d. d == other) (given_superclasses self.now.family class) }
     {
         let _classes = self.family().classes();
-        self.superclasses(class).any(|above| above == other)
+        self.supers(class).any(|above| above == other)
     }
 
     /// Whether the built-in class above a given one is below another built-in class.

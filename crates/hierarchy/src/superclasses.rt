@@ -47,7 +47,7 @@ impl Iterator for Superclasses<'_> {
 
 impl Hierarchy {
     /// The given superclasses of a class, the nearest first. None for a number of no class.
-    pub fn superclasses(&self, class: u32) -> Superclasses<'_>
+    pub fn supers(&self, class: u32) -> Superclasses<'_>
         ensures { AreSuperclasses self.now.family class result }
     {
         Superclasses {

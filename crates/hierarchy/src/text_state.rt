@@ -1,6 +1,6 @@
 //! How texts are hashed.
 
-use crate::texts::Texts;
+use crate::interner::Interner;
 use classfile::Constant;
 use loading::given::GivenClass;
 use sha2::{Digest, Sha256};
@@ -44,7 +44,7 @@ impl TextState {
     }
 
     /// By the digest of these texts and those of classes. So who chooses them can't know by what they will be hashed.
-    pub(crate) fn of_all(texts: &Texts, classes: &[GivenClass]) -> Self {
+    pub(crate) fn of_all(texts: &Interner, classes: &[GivenClass]) -> Self {
         let mut hasher = Sha256::new();
         for text in texts.all() {
             feed(&mut hasher, text.as_slice());
@@ -57,7 +57,7 @@ impl TextState {
 }
 
 /// Feeds the texts of constants. One that is guessed right is among the texts that were fed.
-fn feed_others(hasher: &mut Sha256, texts: &Texts, constants: &[Constant]) {
+fn feed_others(hasher: &mut Sha256, texts: &Interner, constants: &[Constant]) {
     for constant in constants {
         if let Constant::Utf8 { text } = constant {
             if texts.guess(text.bytes()).is_none() {

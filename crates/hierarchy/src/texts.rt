@@ -1,37 +1,36 @@
 //! Texts by number.
 
-ghost use Rattle.std.specs.Prelude.{◌+◌, ◌++◌, ◌∷◌, ◌≡◌, [], Some, IfOk, IfSome, OnErr, OnOk, MatchOption, option_map};
+ghost use Rattle.std.specs.Prelude.{◌+◌, ◌++◌, ◌∷◌, ◌≡◌, [], Some, IfOk, OnErr, OnOk, MatchOption, length, option_map};
 ghost use Rattle.std.specs.Prelude.{slice_get};
 ghost use Rattle.std.specs.List.{Contains};
 ghost use Rattle.hierarchy.specs.Texts.{AreDistinct};
 ghost use Rattle.hierarchy.specs.steps.GrowingTexts.{KeepsNumbers};
+ghost use Rattle.hierarchy.specs.steps.HeldTexts.{texts_of};
+ghost use Rattle.hierarchy.specs.steps.TextNumbers.{FindTexts};
 
-use crate::guesses::Guesses;
 use crate::text_state::TextState;
-use indexmap::IndexSet;
-use loading::given::GivenClass;
 use std::alloc::{AllocError, Global};
+use std::collections::HashMap;
 use std::marker::Model;
-
-/// How often texts are sought by a state that is known to all: whoever makes them meet costs little.
-const KNOWN: usize = 4_096;
 
 /// Texts in the order in which they came, each once. A text's number is its place.
 #[derive(Drop)]
 pub struct Texts {
-    texts: IndexSet<Vec<u8>, TextState>,
-    guesses: Guesses,
-    /// How often texts may be sought yet by a state that is known to all, where it is.
-    left: Option<usize>,
+    texts: Vec<Vec<u8>>,
+    /// By text: its number.
+    numbers: HashMap<Vec<u8>, usize, TextState>,
 }
 
 impl Model for Texts {
     ghost use Rattle.std.specs.Prelude.{List, ℕ};
     ghost use Rattle.hierarchy.specs.steps.HeldTexts.{texts_of};
+    ghost use Rattle.hierarchy.specs.steps.TextNumbers.{FindTexts};
 
     ghost Value = { List (List ℕ) };
 
-    ghost view = { λ s. texts_of s.texts.keys };
+    ghost view = { λ s. texts_of s.texts.items };
+
+    ghost invariant = { λ s. FindTexts (texts_of s.texts.items) s.numbers };
 }
 
 impl Texts {
@@ -40,28 +39,9 @@ impl Texts {
         ensures { result ≡ [] }
     {
         Texts {
-            texts: IndexSet::with_hasher(alloc, state),
-            guesses: Guesses::none(alloc),
-            left: None,
+            texts: Vec::new(alloc),
+            numbers: HashMap::with_hasher(alloc, state),
         }
-    }
-
-    /// The empty text alone, at number 0. Texts are hashed by a state that is known to all.
-    ///
-    /// # Errors
-    /// Where memory runs out.
-    pub(crate) fn with_empty(alloc: Global) -> Result<Self, AllocError>
-        ensures first { IfOk result (λ texts. slice_get texts 0 ≡ Some []) }
-        ensures distinct { IfOk result AreDistinct }
-    {
-        let guesses = Guesses::new(alloc)?;
-        let mut texts = Texts {
-            texts: IndexSet::with_hasher(alloc, TextState::known()),
-            guesses,
-            left: Some(KNOWN),
-        };
-        texts.push(alloc, &[])?;
-        Ok(texts)
     }
 
     /// The number of a text, if it has one.
@@ -69,15 +49,14 @@ impl Texts {
         ensures number { MatchOption result (¬ Contains self.now text.now) (λ n. slice_get self.now n ≡ Some text.now) }
         ensures distinct { AreDistinct self.now }
     {
-        let _distinct = self.texts.len();
-        self.texts.get_index_of(text)
+        self.numbers.get(text).copied()
     }
 
     /// The text of a number.
     pub fn text(&self, number: usize) -> Option<&[u8]>
         ensures { option_map (λ t. t.now) result ≡ slice_get self.now number }
     {
-        let text = self.texts.get_index(number)?;
+        let text = self.texts.get(number)?;
         Some(text.as_slice())
     }
 
@@ -94,64 +73,10 @@ impl Texts {
         ensures last { ¬ Contains self.old text.now → OnOk result (self.new ≡ self.old ++ text.now ∷ []) }
         ensures err { OnErr result (self.new ≡ self.old) }
     {
-        let _distinct = self.count();
-        match self.guess(text) {
+        match self.number(text) {
             Some(number) => Ok(number),
-            None => self.seek(alloc, text),
+            None => self.push(alloc, text),
         }
-    }
-
-    /// The number of a text, if it is the one that is guessed.
-    pub(crate) fn guess(&self, text: &[u8]) -> Option<usize>
-        ensures { IfSome result (λ n. slice_get self.now n ≡ Some text.now) }
-    {
-        let number = self.guesses.guess(text)?;
-        let guessed = self.text(number)?;
-        if guessed == text { Some(number) } else { None }
-    }
-
-    /// How many texts there are. No two are the same.
-    fn count(&self) -> usize
-        ensures { AreDistinct self.now }
-    {
-        self.texts.len()
-    }
-
-    /// The texts.
-    pub(crate) fn all(&self) -> &[Vec<u8>] {
-        self.texts.as_slice()
-    }
-
-    /// Whether to seek `more` texts may cost much, if somebody made them meet.
-    pub(crate) fn is_at_risk(&self, more: usize) -> bool {
-        match self.left {
-            Some(left) => more > left,
-            None => false,
-        }
-    }
-
-    /// Hashes the texts by the digest of them all and of those of classes to come, unless it is known to nobody by what
-    /// they are hashed.
-    ///
-    /// # Errors
-    /// Where memory runs out; they are hashed as before.
-    pub(crate) fn hash_by_all(
-        &mut self,
-        alloc: Global,
-        coming: &[GivenClass],
-    ) -> Result<(), AllocError>
-        ensures { self.new ≡ self.old }
-    {
-        if self.left.is_none() {
-            return Ok(());
-        }
-        let state = TextState::of_all(self, coming);
-        self.rehash(alloc, state)
-    }
-
-    /// What the texts are hashed by.
-    pub fn state(&self) -> TextState {
-        *self.texts.hasher()
     }
 
     /// Hashes the texts by another state.
@@ -161,32 +86,8 @@ impl Texts {
     pub fn rehash(&mut self, alloc: Global, state: TextState) -> Result<(), AllocError>
         ensures { self.new ≡ self.old }
     {
-        let _distinct = self.texts.len();
-        let mut texts = IndexSet::with_hasher(alloc, state);
-        texts.append(&mut self.texts)?;
-        self.texts = texts;
-        self.left = None;
+        self.numbers = numbers_of(alloc, self.texts.as_slice(), state)?;
         Ok(())
-    }
-
-    /// The number of a text that was not guessed, which gets one if it had none. It is guessed next.
-    fn seek(&mut self, alloc: Global, text: &[u8]) -> Result<usize, AllocError>
-        ensures number { IfOk result (λ n. slice_get self.new n ≡ Some text.now) }
-        ensures keeps { KeepsNumbers self.old self.new }
-        ensures distinct { OnOk result (AreDistinct self.new) }
-        ensures same { Contains self.old text.now → OnOk result (self.new ≡ self.old) }
-        ensures last { ¬ Contains self.old text.now → OnOk result (self.new ≡ self.old ++ text.now ∷ []) }
-        ensures err { OnErr result (self.new ≡ self.old) }
-    {
-        if let Some(left) = self.left {
-            self.left = Some(left.saturating_sub(1));
-        }
-        let number = match self.number(text) {
-            Some(number) => number,
-            None => self.push(alloc, text)?,
-        };
-        self.guesses.note(text, number);
-        Ok(number)
     }
 
     /// The number of a new text.
@@ -198,8 +99,33 @@ impl Texts {
         ensures last { OnOk result (self.new ≡ self.old ++ text.now ∷ []) }
         ensures err { OnErr result (self.new ≡ self.old) }
     {
+        let number = self.texts.len();
+        let key = Vec::from_slice(alloc, text)?;
         let copy = Vec::from_slice(alloc, text)?;
-        let (number, _) = self.texts.insert_full(copy)?;
-        Ok(number)
+        self.texts.push(copy)?;
+        match self.numbers.insert(key, number) {
+            Ok(_) => Ok(number),
+            Err(_) => {
+                self.texts.pop();
+                Err(AllocError)
+            }
+        }
     }
+}
+
+/// By text: its place.
+fn numbers_of(
+    alloc: Global,
+    texts: &[Vec<u8>],
+    state: TextState,
+) -> Result<HashMap<Vec<u8>, usize, TextState>, AllocError>
+    requires { AreDistinct (texts_of texts.now) }
+    ensures { IfOk result (FindTexts (texts_of texts.now)) }
+{
+    let mut numbers = HashMap::with_hasher(alloc, state);
+    for (number, text) in texts.iter().enumerate() {
+        let key = Vec::from_slice(alloc, text.as_slice())?;
+        numbers.insert(key, number)?;
+    }
+    Ok(numbers)
 }

@@ -41,7 +41,7 @@ pub fn add_all(answer: &mut Answer, program: &Program) {
 /// The given superclasses of a class, nearest first.
 pub fn add_superclasses(answer: &mut Answer, program: &Program, class: &str) {
     if let Some(class) = given(answer, program, class) {
-        for number in program.superclasses(class) {
+        for number in program.supers(class) {
             add_name(answer, program, number);
         }
         answer.or_nothing()

@@ -58,11 +58,6 @@ at_file (x ∷ family) zero given f within is at =
 at_file (x ∷ family) (suc number) given f within is at =
     at_file family number given f (omega (arith, within)) is at
 
-pub at_place : {A : Type 0} (xs : List A) (i : ℕ) (x d : A) → slice_get xs i ≡ Some x → get_or xs i d ≡ x
-at_place [] i x d at = absurd cc
-at_place (y ∷ xs) zero x d at = cc
-at_place (y ∷ xs) (suc i) x d at = at_place xs i x d at
-
 pub place_of : {A : Type 0} (xs : List A) (i : ℕ) (d : A) → i < length xs → slice_get xs i ≡ Some (get_or xs i d)
 place_of [] i d within = absurd (omega (arith, within))
 place_of (y ∷ xs) zero d within = refl

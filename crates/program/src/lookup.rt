@@ -24,10 +24,10 @@ use std::alloc::AllocError;
 
 impl Program {
     /// The given superclasses of a class, the nearest first. None for a number of no class.
-    pub fn superclasses(&self, class: u32) -> Superclasses<'_>
+    pub fn supers(&self, class: u32) -> Superclasses<'_>
         ensures { AreSuperclasses self.now.family class result }
     {
-        self.hierarchy.superclasses(class)
+        self.hierarchy.supers(class)
     }
 
     /// The field that the Fieldref at an index of a class's constant pool resolves to (JVMS 5.4.3.2).
@@ -68,7 +68,7 @@ impl Program {
         ensures { result ≡ list_any (λ d. d == other) (given_superclasses self.now.family class) }
     {
         let _classes = self.family().classes();
-        self.superclasses(class).any(|above| above == other)
+        self.supers(class).any(|above| above == other)
     }
 
     /// Whether objects of the first class have the instance fields of the second: it is that class, or one of its

@@ -2,6 +2,8 @@
 use Rattle.std.specs.Prelude.{◌≡◌, ℕ, List, [], Some, length, slice_get}
 use Rattle.classfile.specs.ClassFile.{ClassFile}
 use Rattle.loading.specs.Families.{Family, file_in}
+use Rattle.hierarchy.specs.steps.BuiltInTexts.{built_in_texts}
+use Rattle.hierarchy.specs.steps.GrowingTexts.{KeepsNumbers}
 use Rattle.hierarchy.specs.steps.PoolTexts.{AreTextNumbers}
 use Rattle.hierarchy.specs.Texts.{AreDistinct}
 use Rattle.hierarchy.specs.declared.member_table.MemberTable.{MemberTable}
@@ -10,6 +12,7 @@ use Rattle.hierarchy.specs.declared.member_table.MemberTable.{MemberTable}
 pub record HavePools (family : Family) (texts by_class : List (List ℕ)) : Type 0 where
   pub distinct : AreDistinct texts
   pub first : slice_get texts 0 ≡ Some []
+  pub built_in : KeepsNumbers built_in_texts texts
   pub count : length by_class ≡ length family
   pub pools : (c : ℕ) (f : ClassFile) (numbers : List ℕ) → file_in family c ≡ Some f
       → slice_get by_class c ≡ Some numbers → AreTextNumbers texts f numbers

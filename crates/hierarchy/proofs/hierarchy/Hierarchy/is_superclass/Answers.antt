@@ -13,8 +13,8 @@ returns c =
     let supers : List ℕ = given_superclasses family c.args.class in
     let fits = subst IsFamily c.family.ensures c.classes-classes.ensures.fits in
     let within = subst (λ (f : Family). AreParentsWithin f) c.family.ensures c.classes-classes.ensures.within in
-    let same : c.superclasses.result ≡ supers =
-    same_superclasses c.superclasses.ensures (superclasses_of family c.args.class fits within) in
+    let same : c.supers.result ≡ supers =
+    same_superclasses c.supers.ensures (superclasses_of family c.args.class fits within) in
     any_from_yields_List (λ d. d == c.args.other) _ _ c.any.result c.any.ensures.ran
     (YieldsList-from_first (λ x. x) (λ s. s) supers same)
     (λ x b q k. search (rules, tests))

@@ -1,11 +1,10 @@
-use Rattle.std.proofs.Common.{◌∙◌, [], ap}
-use Rattle.indexmap.specs.IndexSet.{insert_all}
+use Rattle.std.proofs.Common.{sym, subst}
+use Rattle.hierarchy.specs.Texts.{AreDistinct}
 use Rattle.hierarchy.specs.steps.HeldTexts.{texts_of}
-use Rattle.hierarchy.proofs.HeldTextsLemmas.{alike, distinct, all_inserted}
+use Rattle.hierarchy.proofs.TextNumbersLemmas.{distinct_found}
 use Rattle.hierarchy.proofs.texts.Texts.rehash.Goals as goal
 
-pub returns : goal.returns
-returns c =
-    let old = c.self.inside.texts.keys in
-    ap texts_of (c.in_ok-append.ensures.keys ∙ ap (λ keys. insert_all alike keys old) c.with_hasher-texts.ensures.empty
-    ∙ all_inserted [] old (distinct old c.len-distinct.ensures.unique)) ∙ c.self.view_is
+pub numbers_of-requires : goal.numbers_of-requires
+numbers_of-requires c =
+    subst (λ held. AreDistinct (texts_of held)) (sym c.as_slice.ensures.value)
+    (distinct_found (texts_of c.self.inside.texts.items) c.self.inside.numbers c.self.invariant)

@@ -14,8 +14,8 @@ returns c =
     let fits : IsFamily family = subst IsFamily c.family.ensures c.classes-classes.ensures.fits in
     let within : AreParentsWithin family =
     subst (λ (f : Family). AreParentsWithin f) c.family.ensures c.classes-classes.ensures.within in
-    let same : c.superclasses.result ≡ supers =
-    same_superclasses c.superclasses.ensures (superclasses_of family c.args.class fits within) in
+    let same : c.supers.result ≡ supers =
+    same_superclasses c.supers.ensures (superclasses_of family c.args.class fits within) in
     any_from_yields_List (λ d. d == c.args.other) _ _ c.any.result c.any.ensures.ran
     (YieldsList-from_first (λ x. x) (λ s. s) supers same)
     (λ x b q k. search (rules, tests))

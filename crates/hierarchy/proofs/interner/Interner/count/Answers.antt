@@ -1,7 +1,7 @@
 use Rattle.std.proofs.Common.{subst}
 use Rattle.hierarchy.specs.Texts.{AreDistinct}
 use Rattle.hierarchy.proofs.HeldTextsLemmas.{distinct}
-use Rattle.hierarchy.proofs.texts.Texts.count.Goals as goal
+use Rattle.hierarchy.proofs.interner.Interner.count.Goals as goal
 
 pub returns : goal.returns
 returns c = subst AreDistinct c.self.view_is (distinct c.self.inside.texts.keys c.len.ensures.unique)

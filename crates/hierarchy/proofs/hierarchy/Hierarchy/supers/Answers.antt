@@ -2,7 +2,7 @@ use Rattle.std.proofs.Common.{sym, subst, ◌∙◌}
 use Rattle.loading.specs.Families.{Family}
 use Rattle.hierarchy.specs.Initialization.{AreSuperclasses, given_superclasses}
 use Rattle.hierarchy.proofs.InitializationLemmas.{superclasses_of}
-use Rattle.hierarchy.proofs.hierarchy.Hierarchy.superclasses.Goals as goal
+use Rattle.hierarchy.proofs.hierarchy.Hierarchy.supers.Goals as goal
 
 pub invariant_of-result : goal.invariant_of-result
 invariant_of-result c = rw c.classes.ensures.value (c.classes.ensures.fits, c.classes.ensures.within)

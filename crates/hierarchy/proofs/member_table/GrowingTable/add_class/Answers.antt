@@ -1,5 +1,5 @@
 use Rattle.hierarchy.proofs.MemberTablesLemmas.{pools_with}
-use Rattle.hierarchy.proofs.member_table.MemberTable.add_class.Goals as goal
+use Rattle.hierarchy.proofs.member_table.GrowingTable.add_class.Goals as goal
 
 pub returns : goal.returns
 returns c = λ family have.
