@@ -1,5 +1,6 @@
 #!/usr/bin/env python3
-"""Asks of every name in backquotes in the documents whether the tree has it, and prints those that it has not.
+"""Asks of every name in backquotes, and of every link, in the documents whether the tree has it, and prints those that
+it has not.
 
   tools/names.py [FILE..]     these documents, or README.md, docs/, and the READMEs and other documents of crates
 
@@ -118,6 +119,12 @@ def spans(text):
         yield text.count("\n", 0, it.start()) + 1, re.sub(r"\s+", " ", it[1]).strip()
 
 
+def links(text):
+    """The files that a text links to, each with its line."""
+    for it in re.finditer(r"\]\(([^)#:]+)(?:#[^)]*)?\)", text):
+        yield text.count("\n", 0, it.start()) + 1, it[1]
+
+
 def missing(tree, document, span):
     """What the tree does not have of the names that a text in backquotes holds."""
     words = span.split(" ")
@@ -150,6 +157,10 @@ def main():
         path for path in tree.files if path.endswith(".md") and re.match(r"[^/]+$|docs/|crates/[^/]+/[^/]+$", path)]
     lost = 0
     for document in documents:
+        for line, link in links(text_of(document)):
+            if not os.path.exists(os.path.normpath(f"{ROOT}/{os.path.dirname(document)}/{link}")):
+                print(f"{document}:{line}: {link}")
+                lost += 1
         for line, span in spans(text_of(document)):
             for name in missing(tree, document, span):
                 print(f"{document}:{line}: {name}" + ("" if name == span else f" (in `{span}`)"))
