@@ -7,11 +7,13 @@ it has not.
 A name is a path (from the root, from the document's folder or within a crate), a pattern of paths, an identifier of
 code, definitions or scripts (comments don't count), a path of modules as `cli::build_here`, whose last part has to
 stand in a file of that crate, an option of the program or of a script, a command of the program, or a class of Java.
-What is no name is passed over: code, output, numbers. It ends in 1 where a name is missing, and takes some seconds.
+What is no name is passed over: code, output, numbers. The crates of docs/ARCHITECTURE.md have to be those of
+crates.txt, and the picture there that of `bench/layers`. It ends in 1 where one is missing, and takes some seconds.
 """
 import fnmatch
 import os
 import re
+import subprocess
 import sys
 
 ROOT = os.path.dirname(os.path.dirname(os.path.realpath(__file__)))
@@ -151,11 +153,24 @@ def is_class(path):
     return bool(re.match(r"(java|app|p|q)/", path))
 
 
+def crates_apart():
+    """The crates that crates.txt or the tables of docs/ARCHITECTURE.md lack, and its picture where that is another."""
+    text = text_of("docs/ARCHITECTURE.md")
+    listed_there = re.findall(r"(?m)^([a-z_]+)[^:\n]*:", text_of("crates.txt"))
+    rows = re.findall(r"(?m)^\| (`[a-z_]+`(?:, `[a-z_]+`)*) \|", text.partition("| Crate |")[2])
+    named = re.findall(r"[a-z_]+", " ".join(rows))
+    drawn = subprocess.run([f"{ROOT}/bench/layers"], capture_output=True, text=True, check=True).stdout
+    return sorted(set(listed_there) ^ set(named)) + ["the picture of bench/layers"] * (drawn not in text)
+
+
 def main():
     tree = Tree()
     documents = [os.path.relpath(os.path.abspath(path), ROOT) for path in sys.argv[1:]] or [
         path for path in tree.files if path.endswith(".md") and re.match(r"[^/]+$|docs/|crates/[^/]+/[^/]+$", path)]
-    lost = 0
+    apart = crates_apart()
+    lost = len(apart)
+    for it in apart:
+        print(f"docs/ARCHITECTURE.md: {it}")
     for document in documents:
         for line, link in links(text_of(document)):
             if not os.path.exists(os.path.normpath(f"{ROOT}/{os.path.dirname(document)}/{link}")):
