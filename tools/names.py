@@ -28,7 +28,7 @@ COMMENTS = {".rt": "//", ".antt": "--", ".edit": None, ".java": "//", ".c": "//"
 OTHERS = ("java", "javac", "javap", "jar", "rt", "rattle", "git", "find", "perf", "getconf", "cp", "export", "mkdir")
 # Names of Java, of its machine and library, of the system and of the toolchain, which nothing here defines.
 ELSEWHERE = set("""
-    Annotation Cloneable GLIBC_TUNABLES IllegalArgumentException Main Math NAME NAMES Send Serializable StackOverflowError
+    Annotation AutoCloseable Cloneable Comparable GLIBC_TUNABLES IllegalArgumentException Main Math NAME NAMES Send Serializable StackOverflowError
     System UnsupportedOperationException arraycopy assert err max ordinal OutOfMemoryError CAFEBABE LIST FILE PLACE LINE
     """.split())
 
