@@ -28,8 +28,8 @@ COMMENTS = {".rt": "//", ".antt": "--", ".edit": None, ".java": "//", ".c": "//"
 OTHERS = ("java", "javac", "javap", "jar", "rt", "rattle", "git", "find", "perf", "getconf", "cp", "export", "mkdir")
 # Names of Java, of its machine and library, of the system and of the toolchain, which nothing here defines.
 ELSEWHERE = set("""
-    Annotation AutoCloseable Cloneable Comparable GLIBC_TUNABLES IllegalArgumentException Main Math NAME NAMES Send Serializable StackOverflowError
-    System UnsupportedOperationException arraycopy assert err max ordinal OutOfMemoryError CAFEBABE LIST FILE PLACE LINE
+    Annotation AutoCloseable Cloneable Comparable IllegalArgumentException LINE OutOfMemoryError PLACE Serializable
+    StackOverflowError UnsupportedOperationException arraycopy
     """.split())
 
 
@@ -107,7 +107,7 @@ class Tree:
         return bool(found)
 
     def has_name(self, name):
-        """Whether each part of the path of modules, or of fields, is there, and the last one in the crate of the first."""
+        """Whether each part of a path of modules or fields is there, and the last one in the crate of the first."""
         parts = re.split(r"::|\.", name)
         if parts[0] in self.of_crate and len(parts) > 1 and "::" in name:
             return all(part in self.of_crate[parts[0]] for part in parts[1:])
