@@ -2,7 +2,7 @@
 """Asks of every name in backquotes, and of every link, in the documents whether the tree has it, and prints those that
 it has not.
 
-  tools/names.py [FILE..]     these documents, or README.md, docs/, and the READMEs and other documents of crates
+  tools/names.py [FILE..]     these documents, or those of the root, of docs/, of bench/ and of crates
 
 A name is a path (from the root, from the document's folder or within a crate), a pattern of paths, an identifier of
 code, definitions or scripts (comments don't count), a path of modules as `cli::build_here`, whose last part has to
@@ -166,7 +166,7 @@ def crates_apart():
 def main():
     tree = Tree()
     documents = [os.path.relpath(os.path.abspath(path), ROOT) for path in sys.argv[1:]] or [
-        path for path in tree.files if path.endswith(".md") and re.match(r"[^/]+$|docs/|crates/[^/]+/[^/]+$", path)]
+        path for path in tree.files if path.endswith(".md") and re.match(r"[^/]+$|docs/|bench/|crates/[^/]+/[^/]+$", path)]
     apart = crates_apart()
     lost = len(apart)
     for it in apart:
