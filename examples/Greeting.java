@@ -1,5 +1,5 @@
 public class Greeting {
     public static void main(String[] args) {
-        System.out.println("arguments: " + args.length);
+        System.out.println("Hello, ".concat("world"));
     }
 }
