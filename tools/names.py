@@ -22,8 +22,10 @@ NAME = re.compile(r"[A-Za-z_]\w*")
 QUALIFIED = re.compile(r"[A-Za-z_]\w*(?:(?:::|\.)[A-Za-z_]\w*)*")
 PATH = re.compile(r"[\w.*@-]*(?:/[\w.*@-]+)*/?")
 OPTION = re.compile(r"--[a-z][a-z-]*")
-# What a comment begins with, by a file's ending; scripts without an ending are Python.
-COMMENTS = {".rt": "//", ".antt": "--", ".edit": None, ".java": "//", ".c": "//", ".txt": None}
+# What a comment begins with, by a file's ending; scripts without an ending are Python or of the shell. No other file has
+# names.
+COMMENTS = {".rt": "//", ".antt": "--", ".edit": None, ".java": "//", ".c": "//", ".txt": None, ".py": "#", ".sh": "#",
+            "": "#"}
 # The first words of commands of others, whose options and names are theirs.
 OTHERS = ("java", "javac", "javap", "jar", "rt", "rattle", "git", "find", "perf", "getconf", "cp", "export", "mkdir")
 # Names of Java, of its machine and library, of the system and of the toolchain, which nothing here defines.
@@ -79,10 +81,11 @@ class Tree:
     def read(self, path):
         """Adds what a file names."""
         ending = os.path.splitext(path)[1]
-        if ending in (".md", ".class", ".gitignore") or path == "tools/names.py":
+        if ending not in COMMENTS or path == "tools/names.py":
             return
-        text = text_of(path)
-        begin = COMMENTS.get(ending, "#")
+        text, begin = text_of(path), COMMENTS[ending]
+        if not ending and not crate_of(path) and not text.startswith("#!"):
+            return
         if begin:
             text = re.sub(rf"(?m)(?:^|\s){begin}.*$", "", text)
         words = set(WORD.findall(text)) | {os.path.splitext(os.path.basename(path))[0]}
@@ -94,7 +97,7 @@ class Tree:
 
     def has_path(self, path, document):
         """Whether there is such a path, or one that the pattern is of, from the root or in the document's crate."""
-        path = re.sub(r"\b[A-Z]{3,}\b", "*", path.rstrip("/").removeprefix("./"))
+        path = re.sub(r"\b(CRATE|FILE|KIND|NAME)\b", "*", path.rstrip("/").removeprefix("./"))
         if "*" in path:
             return any(fnmatch.fnmatch(end, path) or fnmatch.fnmatch(end, path + ".*") for end in self.ends)
         here = os.path.normpath(f"{os.path.dirname(document)}/{path}")
