@@ -18,7 +18,6 @@ import sys
 
 ROOT = os.path.dirname(os.path.dirname(os.path.realpath(__file__)))
 WORD = re.compile(r"[A-Za-z_]\w*")
-NAME = re.compile(r"[A-Za-z_]\w*")
 QUALIFIED = re.compile(r"[A-Za-z_]\w*(?:(?:::|\.)[A-Za-z_]\w*)*")
 PATH = re.compile(r"[\w.*@-]*(?:/[\w.*@-]+)*/?")
 OPTION = re.compile(r"--[a-z][a-z-]*")
