@@ -12,3 +12,4 @@ pub mod Members
 pub mod Numbers
 pub mod Pool
 pub mod Repeat
+pub mod Kept

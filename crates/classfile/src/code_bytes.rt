@@ -2,17 +2,14 @@
 
 ghost use Rattle.std.specs.Prelude.{◌≡◌, ◌<◌, ◌^◌, length, IfOk};
 
-use smallvec::SmallVec;
+use crate::bytes::Bytes;
 use std::alloc::{AllocError, Global};
 use std::marker::Model;
-
-/// The longest code that stands in its attribute, and needs no allocation.
-const SHORT: usize = 24;
 
 /// The bytes of a method's code, fewer than 65,536 of them (JVMS 4.7.3), seen as their list.
 #[derive(Drop)]
 pub struct CodeBytes {
-    bytes: SmallVec<u8, SHORT>,
+    bytes: Bytes,
 }
 
 impl Model for CodeBytes {
@@ -20,9 +17,9 @@ impl Model for CodeBytes {
 
     ghost Value = { List ℕ };
 
-    ghost view = { λ b. b.bytes.items };
+    ghost view = { λ b. b.bytes };
 
-    ghost invariant = { λ b. length b.bytes.items < 2 ^ 16 };
+    ghost invariant = { λ b. length b.bytes < 2 ^ 16 };
 }
 
 impl CodeBytes {
@@ -31,7 +28,7 @@ impl CodeBytes {
         ensures { IfOk result (λ b. b ≡ bytes.now) }
     {
         Ok(CodeBytes {
-            bytes: SmallVec::from_slice(alloc, bytes)?,
+            bytes: Bytes::copy_of(alloc, bytes)?,
         })
     }
 

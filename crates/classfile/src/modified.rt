@@ -6,17 +6,14 @@ ghost use Rattle.classfile.specs.reading.Modified.{is_one, is_two, is_three, all
 ghost use Rattle.classfile.specs.Units.{unit_text, units_text, IsModifiedUtf8};
 ghost use Rattle.classfile.specs.Printing.{unit_of_two, unit_of_three, units_of};
 
-use smallvec::SmallVec;
+use crate::bytes::Bytes;
 use std::alloc::{AllocError, Global};
 use std::marker::Model;
-
-/// The longest text that stands in its constant, and needs no allocation, in bytes.
-const SHORT: usize = 24;
 
 /// Bytes that are modified UTF-8: each 16-bit unit in its one spelling.
 #[derive(Drop)]
 pub struct ModifiedUtf8 {
-    bytes: SmallVec<u8, SHORT>,
+    bytes: Bytes,
 }
 
 impl Model for ModifiedUtf8 {
@@ -25,9 +22,9 @@ impl Model for ModifiedUtf8 {
 
     ghost Value = { List ℕ };
 
-    ghost view = { λ s. s.bytes.items };
+    ghost view = { λ s. s.bytes };
 
-    ghost invariant = { λ s. is_modified s.bytes.items ≡ true };
+    ghost invariant = { λ s. is_modified s.bytes ≡ true };
 }
 
 impl ModifiedUtf8 {
@@ -37,7 +34,7 @@ impl ModifiedUtf8 {
         ensures { IfOk result (λ s. s ≡ bytes.now) }
     {
         Ok(ModifiedUtf8 {
-            bytes: SmallVec::from_slice(alloc, bytes)?,
+            bytes: Bytes::copy_of(alloc, bytes)?,
         })
     }
 
@@ -49,11 +46,11 @@ impl ModifiedUtf8 {
     pub fn from_units(alloc: Global, units: &[u16]) -> Result<Self, AllocError>
         ensures { IfOk result (λ s. s ≡ units_text units.now) }
     {
-        let mut bytes = SmallVec::new(alloc);
+        let mut bytes = Vec::new(alloc);
         for unit in units {
             push_unit(&mut bytes, *unit)?;
         }
-        Ok(ModifiedUtf8 { bytes })
+        ModifiedUtf8::copy_of(alloc, &bytes)
     }
 
     /// The bytes as a slice.
@@ -66,7 +63,7 @@ impl ModifiedUtf8 {
 }
 
 /// Writes the spelling of a unit after the bytes.
-fn push_unit(bytes: &mut SmallVec<u8, SHORT>, unit: u16) -> Result<(), AllocError>
+fn push_unit(bytes: &mut Vec<u8>, unit: u16) -> Result<(), AllocError>
     ensures { OnOk result (bytes.new.items ≡ bytes.old.items ++ unit_text unit) }
 {
     let last = (128 + unit % 64) as u8;

@@ -113,7 +113,7 @@ impl World {
     }
 
     /// Whether some thread has not ended, and no thread has a step. It takes no memory.
-    pub fn is_stuck(&self, program: &Program) -> bool
+    pub fn stuck(&self, program: &Program) -> bool
         ensures { IsTrue result ↔ IsStuck (program_of program.now) (world_of self.now) }
     {
         match self.rest(program) {

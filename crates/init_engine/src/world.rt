@@ -198,6 +198,18 @@ impl World {
         Ok(Seen { printed, threads })
     }
 
+    /// What the world has shown. Of what it printed it is a copy.
+    ///
+    /// # Errors
+    /// `AllocError` where memory is refused.
+    pub fn seen(&self, alloc: Global) -> Result<Seen, AllocError>
+        ensures { IfOk result (λ s. IsObservation s (seen (world_of self.now))) }
+    {
+        let threads = endings(alloc, self.threads.as_slice())?;
+        let printed = self.printed.copy(alloc)?;
+        Ok(Seen { printed, threads })
+    }
+
     /// How far each thread has come, by its number.
     ///
     /// # Errors

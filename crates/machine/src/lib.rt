@@ -44,5 +44,6 @@ pub use kinds::Effect;
 pub use vm_state::heap::Heap;
 pub use vm_state::initialization::Frames;
 pub use vm_state::object::Object;
+pub use vm_state::row::{LentObject, Row};
 pub use vm_state::shared::Shared;
-pub use vm_state::value::Value;
+pub use vm_state::value::{Maker, Value};

@@ -123,7 +123,7 @@ fn add_count(answer: &mut Answer, schedule: &[(u32, u64)]) {
 fn add_seen(answer: &mut Answer, program: &Program, world: &World) {
     add_endings(answer, world);
     add_prints(answer, world.printed());
-    if world.is_stuck(program) {
+    if world.stuck(program) {
         answer.word(" stuck")
     }
 }

@@ -76,7 +76,7 @@ fn add_sight(answer: &mut Answer, program: &Program, world: &World) {
         Err(_) => answer.refuse(),
     }
     add_prints(answer, world.printed());
-    if world.is_stuck(program) {
+    if world.stuck(program) {
         answer.word(" stuck")
     }
 }

@@ -133,14 +133,14 @@ impl<O: Session, S: Sink> Desk<O, S> {
                 }
             }
             Commit::Waiting => {
-                if self.book.world().is_stuck(program) {
+                if self.book.world().stuck(program) {
                     Next::End
                 } else {
                     Next::Sleep
                 }
             }
             Commit::Ended => {
-                if self.book.world().is_stuck(program) || self.is_left_to_last(open) {
+                if self.book.world().stuck(program) || self.is_left_to_last(open) {
                     Next::End
                 } else {
                     Next::Leave

@@ -381,19 +381,27 @@ pub seen : (w : List (ℕ × Monitor)) (ns : List ℕ) (ks : List Kept) (p n : �
 seen w ns ks p n k number kept =
     sym (ap (option_map numbered_kept) (stands_there w ns ks p n k number kept))
 
+pub nothing_numbered : (w : List (ℕ × Monitor)) (ns : List ℕ) (ks : List Kept) (p : ℕ) → slice_get ns p ≡ None →
+    slice_get (objects_of w ns ks) p ≡ None
+nothing_numbered w [] ks p none = refl
+nothing_numbered w (x ∷ ns) [] p none = refl
+nothing_numbered w (x ∷ ns) (y ∷ ks) zero none = cc
+nothing_numbered w (x ∷ ns) (y ∷ ks) (suc p) none = nothing_numbered w ns ks p none
+
+pub nothing_kept : (w : List (ℕ × Monitor)) (ns : List ℕ) (ks : List Kept) (p : ℕ) → slice_get ks p ≡ None →
+    slice_get (objects_of w ns ks) p ≡ None
+nothing_kept w [] ks p none = refl
+nothing_kept w (x ∷ ns) [] p none = refl
+nothing_kept w (x ∷ ns) (y ∷ ks) zero none = cc
+nothing_kept w (x ∷ ns) (y ∷ ks) (suc p) none = nothing_kept w ns ks p none
+
 pub unnumbered : (w : List (ℕ × Monitor)) (ns : List ℕ) (ks : List Kept) (p : ℕ) → slice_get ns p ≡ None →
     None ≡ option_map numbered_kept (slice_get (objects_of w ns ks) p)
-unnumbered w [] ks p none = refl
-unnumbered w (x ∷ ns) [] p none = refl
-unnumbered w (x ∷ ns) (y ∷ ks) zero none = cc
-unnumbered w (x ∷ ns) (y ∷ ks) (suc p) none = unnumbered w ns ks p none
+unnumbered w ns ks p none = sym (ap (option_map numbered_kept) (nothing_numbered w ns ks p none))
 
 pub unkept : (w : List (ℕ × Monitor)) (ns : List ℕ) (ks : List Kept) (p : ℕ) → slice_get ks p ≡ None →
     None ≡ option_map numbered_kept (slice_get (objects_of w ns ks) p)
-unkept w [] ks p none = refl
-unkept w (x ∷ ns) [] p none = refl
-unkept w (x ∷ ns) (y ∷ ks) zero none = cc
-unkept w (x ∷ ns) (y ∷ ks) (suc p) none = unkept w ns ks p none
+unkept w ns ks p none = sym (ap (option_map numbered_kept) (nothing_kept w ns ks p none))
 
 pub inside_of : (w : List (ℕ × Monitor)) (ns : List ℕ) (ks : List Kept) (p n : ℕ) →
     IsSome (object_at_place (objects_of w ns ks) p n) → p < length ks

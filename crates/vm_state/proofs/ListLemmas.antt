@@ -1,5 +1,6 @@
 -- Numbers that are equal or not, and lists seen as functions from places, with a value past the end.
-use Rattle.std.proofs.Common.{◌≡◌, ◌≢◌, ℕ, ◌<◌, ◌⊎◌, inl, inr, Bool, true, false, List, ◌++◌, length, get_or, slice_set}
+use Rattle.std.proofs.Common.{◌≡◌, ◌≢◌, ℕ, zero, suc, ◌+◌, ◌<◌, ◌⊎◌, inl, inr, Bool, true, false, List, [], ◌∷◌}
+use Rattle.std.proofs.Common.{◌++◌, drop, length, get_or, slice_set}
 use Rattle.std.proofs.Common.{replicate, refl, sym, ◌∙◌, ◌==◌, eqb-true, eq-eqb, if◌then◌else◌, arith}
 use Rattle.std.proofs.Common.{get_or-set_same, get_or-set_other}
 use Rattle.std.proofs.lemmas.List.{get_or_past, get_or_default, get_or-replicate, get_or_append_left}
@@ -46,3 +47,14 @@ apart_at f xs ys i d e inside within apart same =
     slice_get-map f ys i ∙ ap (option_map f) (slice_get-get_or ys i e within) in
     let h : Some (f (get_or xs i d)) ≡ Some (f (get_or ys i e)) = sym a ∙ (ap (λ zs. slice_get zs i) same ∙ b) in
     apart cc
+
+-- what is left from a place on is the item there, and what is left from the next
+pub drop_item : {X : Type 0} (xs : List X) (i : ℕ) (x : X) → slice_get xs i ≡ Some x → drop i xs ≡ x ∷ drop (i + 1) xs
+drop_item [] i x at = cc
+drop_item (y ∷ ys) zero x at =
+    let same : y ≡ x = cc in
+    let next : suc zero ≡ zero + 1 = omega arith in
+    ap (λ z. z ∷ ys) same ∙ ap (λ k. x ∷ drop k (y ∷ ys)) next
+drop_item (y ∷ ys) (suc i) x at =
+    let next : suc (i + 1) ≡ suc i + 1 = omega arith in
+    drop_item ys i x at ∙ ap (λ k. x ∷ drop k (y ∷ ys)) next

@@ -1,6 +1,6 @@
 -- The objects of each maker of a kind, as functions of their numbers.
 use Rattle.std.specs.List.{count_by, range_with_len}
-use Rattle.std.specs.Prelude.{◌≡◌, ℕ, List, Option, Some, None, is_some, slice_index_or, ◌==◌, if◌then◌else◌}
+use Rattle.std.specs.Prelude.{◌≡◌, ℕ, List, [], Option, Some, None, is_some, slice_index_or, ◌==◌, if◌then◌else◌}
 use Rattle.vm_state.specs.declared.heap.Heap.{Heap}
 use Rattle.vm_state.specs.declared.object.Object.{Object}
 use Rattle.vm_state.specs.declared.value.Maker.{Maker}
@@ -40,3 +40,8 @@ pub record IsListOf (held : List (ℕ × Object)) (p : Pool) : Type 0 where
 abbrev pub IsPoolBy : Option HeldObjects → Pool → Type 0
 IsPoolBy None p = p ≡ pool_by none_held
 IsPoolBy (Some r) p = p ≡ pool_by r
+
+-- the objects of a pool, each with its number
+abbrev pub all_held : Option HeldObjects → List (ℕ × Object)
+all_held None = []
+all_held (Some r) = r.objects

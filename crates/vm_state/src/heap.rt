@@ -17,6 +17,7 @@ use crate::object::{Monitor, Object, Slots};
 use crate::owners::Owners;
 use crate::packing::Packing;
 use crate::places::{kept_at, number_at, place_of};
+use crate::row::{LentObject, Row};
 use crate::value::{Maker, Value};
 use built_in::class_id::ClassId;
 use std::alloc::{AllocError, Global};
@@ -257,6 +258,23 @@ impl Pool {
         match number_at(self.plain, self.later.as_slice(), place) {
             Some(number) => match kept_at(self.kept.as_slice(), place) {
                 Some(kept) => Some((number, kept)),
+                None => None,
+            },
+            None => None,
+        }
+    }
+
+    /// The object at a place, in the order of the numbers, lent, with its number.
+    pub(crate) fn lent(&self, place: usize) -> Option<(u64, LentObject<'_>)>
+        ensures { result ≡ slice_get self.now.objects place }
+    {
+        match number_at(self.plain, self.later.as_slice(), place) {
+            Some(number) => match kept_at(self.kept.as_slice(), place) {
+                Some(kept) => {
+                    let monitor = self.owners.monitor(number);
+                    let object = LentObject::of(kept.class.id(), &kept.slots, monitor);
+                    Some((number, object))
+                }
                 None => None,
             },
             None => None,
@@ -738,6 +756,19 @@ impl Heap {
         match maker {
             Maker::Class(class) => self.classes.pool(class),
             Maker::Thread(thread) => self.threads.pool(thread),
+        }
+    }
+
+    /// The objects of a maker with their numbers, ascending, none left out; lent, and not copied. Takes no memory.
+    pub fn row(&self, maker: Maker) -> Row<'_>
+        ensures { IsListOf result (pool_at self.now maker) }
+    {
+        match self.pool(maker) {
+            Some(pool) => {
+                let _count = pool.len();
+                Row::of(pool)
+            }
+            None => Row::none(),
         }
     }
 

@@ -16,6 +16,7 @@ pub mod output;
 mod owners;
 pub mod packing;
 mod places;
+pub mod row;
 pub mod shared;
 pub mod spares;
 pub mod text;

@@ -1,6 +1,7 @@
 //! What threads print, in one row of bytes.
 
-ghost use Rattle.std.specs.Prelude.{◌≡◌, ◌<◌, ◌≤◌, ◌++◌, ◌∷◌, [], length, drop, option_map, slice_get, OnOk, OnErr};
+ghost use Rattle.std.specs.Prelude.{◌≡◌, ◌<◌, ◌≤◌, ◌++◌, ◌∷◌, [], length, drop, option_map, slice_get, IfOk, OnOk};
+ghost use Rattle.std.specs.Prelude.{OnErr};
 ghost use Rattle.vm_state.specs.Output.{text_of};
 ghost use Rattle.vm_state.specs.steps.Output.{between, prints_in, start_of, Cover};
 
@@ -80,6 +81,23 @@ impl Output {
             ends: Vec::new(alloc),
             threads: Vec::new(alloc),
         }
+    }
+
+    /// A copy of all that was printed.
+    ///
+    /// # Errors
+    /// `AllocError` where memory is refused.
+    pub fn copy(&self, alloc: Global) -> Result<Output, AllocError>
+        ensures { IfOk result (λ o. o ≡ self.now) }
+    {
+        let bytes = Vec::from_slice(alloc, self.bytes.as_slice())?;
+        let ends = Vec::from_slice(alloc, self.ends.as_slice())?;
+        let threads = Vec::from_slice(alloc, self.threads.as_slice())?;
+        Ok(Output {
+            bytes,
+            ends,
+            threads,
+        })
     }
 
     /// A thread prints a text.

@@ -215,6 +215,13 @@ impl Shared {
         }
     }
 
+    /// The objects.
+    pub fn heap(&self) -> &Heap
+        ensures { result.now ≡ self.now.heap }
+    {
+        &self.heap
+    }
+
     /// The objects of a maker; none where it made none.
     #[tactic(auto, unfolding(crate::specs::Shares::shared_of))]
     pub fn pool(&self, maker: Maker) -> Option<&Pool>

@@ -8,8 +8,8 @@ use Rattle.classfile.proofs.TextLemmas.{one_more}
 use Rattle.classfile.proofs.UnitsLemmas.{units_pass}
 use Rattle.classfile.proofs.modified.ModifiedUtf8.from_units.Goals as goal
 
-pub invariant_of-result : goal.invariant_of-result
-invariant_of-result c =
+pub copy_of-requires : goal.copy_of-requires
+copy_of-requires c =
     let units = c.args.units.now in
     let all : take c.loop-unit.unit-index units ≡ units =
     take_all c.loop-unit.unit-index units c.loop-unit-test.false in
@@ -17,7 +17,7 @@ invariant_of-result c =
     ∙ ap (λ (z : List ℕ). units_text z) all in
     let each : All (λ unit. unit < 2 ^ 16) units =
     All-from_get_or (λ unit. unit < 2 ^ 16) units 0 (λ i lt. omega (arith, c.type_inv.units i)) in
-    ap is_modified text ∙ units_pass units each
+    ap is_modified (c.deref.ensures.value ∙ text) ∙ units_pass units each
 
 pub loop-unit-preserved : goal.loop-unit-preserved
 loop-unit-preserved c =
