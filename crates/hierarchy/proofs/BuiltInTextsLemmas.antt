@@ -41,6 +41,7 @@ one_more text ts none apart (suc i) zero t at also =
 one_more text ts none apart (suc i) (suc j) t at also = ap suc (apart i j t at also)
 
 apart_are_distinct : (ts : List (List ℕ)) → all_apart ts ≡ true → AreDistinct ts
+unfolding all_apart
 apart_are_distinct [] h = λ i j t at also. absurd cc
 apart_are_distinct (text ∷ ts) h =
     by (list_any (pointwise nat_eq text) ts) refl
@@ -52,7 +53,7 @@ apart_are_distinct (text ∷ ts) h =
     by false e rest = one_more text ts e (rest e)
 
 pub built_in_distinct : AreDistinct built_in_texts
-unfolding built_in_texts
+unfolding built_in_texts all_apart
 built_in_distinct = apart_are_distinct built_in_texts refl
 
 -- ---- what is spelled at a place of them
