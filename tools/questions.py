@@ -38,8 +38,8 @@ ASKERS = {
     "uses": build_questions.of_uses,
     "verdicts": build_questions.of_verdicts,
 }
-# So many questions are one piece of work.
-PIECE = 25
+# So many questions are one piece of work, and so many processes ask them.
+PIECE, PROCESSES = 25, 2
 
 
 def begin(path: str):
@@ -63,7 +63,7 @@ def answers(named: list) -> list:
     return found
 
 
-def rows(names: list[str]) -> list:
+def rows(names) -> list:
     """The questions of these folders and files, or of all."""
     found = []
     for name in names or sorted({it.partition("/")[0] for it in ASKERS}):
@@ -77,12 +77,15 @@ def rows(names: list[str]) -> list:
     return found
 
 
-def ask_all(path: str, names: list[str], say) -> tuple[int, int]:
-    """Asks a program questions. Answers how many passed and how many failed."""
+def ask_all(path: str, say, library: str, names: list[str] = ()) -> tuple[int, int]:
+    """Asks a program the questions of these folders and files, or all, with the library that refuses. Answers how many
+    passed and how many failed."""
+    os.environ[command_questions.LIBRARY] = library
     asked_rows, failed = rows(names), 0
-    pieces = [asked_rows[at::-(-len(asked_rows) // PIECE)] for at in range(-(-len(asked_rows) // PIECE))]
-    processes = concurrent.futures.ProcessPoolExecutor(os.cpu_count(), initializer=begin, initargs=(os.path.abspath(path),))
-    with processes as pool:
+    count = -(-len(asked_rows) // PIECE)
+    pieces = [asked_rows[at::count] for at in range(count)]
+    how = {"initializer": begin, "initargs": (os.path.abspath(path),)}
+    with concurrent.futures.ProcessPoolExecutor(PROCESSES, **how) as pool:
         for found in pool.map(answers, pieces):
             failed += len(found)
             for name, row, otherwise in found:
@@ -98,8 +101,8 @@ def main(words: list[str]) -> int:
         return 2
     begun = time.time()
     with program.room() as room:
-        os.environ[command_questions.LIBRARY] = refusals.refusing(room, program.kit())
-        passed, failed = ask_all(words[0], words[1:], lambda text: print(text, flush=True))
+        library = refusals.refusing(room, program.kit())
+        passed, failed = ask_all(words[0], lambda text: print(text, flush=True), library, words[1:])
     print(f"{time.time() - begun:.0f} seconds")
     print(f"{passed} passed, {failed} failed")
     return int(failed != 0)

@@ -14,7 +14,9 @@ pub fn bytes_of(answer: &mut Answer, digits: &str) -> Vec<u8> {
                 None => high = Some(digit),
                 Some(first) => {
                     let byte = u8::try_from(first.wrapping_mul(16).wrapping_add(digit));
-                    answer.note(bytes.push(byte.unwrap_or(0)));
+                    if bytes.push(byte.unwrap_or(0)).is_err() {
+                        answer.refuse();
+                    }
                     high = None;
                 }
             }
@@ -29,7 +31,9 @@ pub fn files_of(answer: &mut Answer, lines: &str) -> Vec<Vec<u8>> {
     for line in lines.lines() {
         if !line.is_empty() {
             let file = bytes_of(answer, line);
-            answer.note(files.push(file));
+            if files.push(file).is_err() {
+                answer.refuse();
+            }
         }
     }
     files

@@ -5,6 +5,9 @@ use crate::hex::{bytes_of, classes_of, files_of};
 use crate::{members, tables, uses};
 use classfile::ClassFile;
 use init_engine::World;
+use initializer_analysis::forced::Forced;
+use initializer_analysis::judge;
+use initializer_analysis::verdict::Verdict;
 use program::{Program, link};
 
 /// A question about classes. Its words end before ` | `; behind that stand the file of the class `Asking`, which has a
@@ -40,13 +43,16 @@ impl<'a> Question<'a> {
 /// - `field REFERENCE` and `method REFERENCE`, what a reference of one more class resolves to; `constant ENTRY`, what
 ///   an entry of the pool of that class stands for; `select CLASS REFERENCE`, which method a call of that method runs
 ///   on an object of the class; `special CLASS REFERENCE`, which one invokespecial of it runs in the class;
-/// - `runs CLASS` and `uses CLASS` (`src/uses.rt`); `start`, whether a run may start without entries.
+/// - `runs CLASS` and `uses CLASS` (`src/uses.rt`); `wave CLASS`, its wave by the code of initializers alone, none of
+///   which runs; `start`, whether a run may start without entries.
 pub fn ask(answer: &mut Answer, given: &str, asked: &str) {
     let question = Question::of(asked);
     let mut files = files_of(answer, given);
     if !question.asking.is_empty() {
         let asking = bytes_of(answer, question.asking);
-        answer.note(files.push(asking));
+        if files.push(asking).is_err() {
+            answer.refuse();
+        }
     }
     of_files(answer, &files, question);
     files.reverse();
@@ -90,6 +96,7 @@ fn of_program(answer: &mut Answer, program: &Program, question: Question<'_>) {
         "method" => members::add_resolved(answer, program, index),
         "select" => members::add_selected(answer, program, class, index),
         "special" => members::add_special(answer, program, class, index),
+        "wave" => add_wave(answer, program, class),
         "start" => start(answer, program),
         _ => of_tables(answer, program, question),
     }
@@ -113,5 +120,19 @@ fn start(answer: &mut Answer, program: &Program) {
     match World::lazy(answer.alloc, program, &[]) {
         Ok(_) => answer.word("started"),
         Err(fault) => answer.show(&fault),
+    }
+}
+
+/// The wave of a class, where none is forced.
+fn add_wave(answer: &mut Answer, program: &Program, class: &str) {
+    let Some(class) = members::number_of(answer, program, class) else {
+        return answer.word("no given class");
+    };
+    match judge(answer.alloc, program, &Forced::none(answer.alloc)) {
+        Ok(verdicts) => match verdicts.of_class(class) {
+            Some(Verdict::Wave(wave)) => answer.show(&wave),
+            _ => answer.word("none"),
+        },
+        Err(_) => answer.refuse(),
     }
 }

@@ -4,6 +4,7 @@
 //! Each wait ends after ten seconds, and is told then.
 
 mod commits;
+mod entries;
 mod gates;
 mod meeting;
 mod plan;
