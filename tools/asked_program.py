@@ -78,7 +78,7 @@ class Asked:
             resource.setrlimit(resource.RLIMIT_FSIZE, (LONGEST, LONGEST))
 
         how = {"stdin": subprocess.DEVNULL, "stdout": streams[1], "stderr": streams[2], "preexec_fn": limited}
-        env = {"LD_PRELOAD": library, "REFUSED_FILE": HUGE} if library else {}
+        env = {"LD_PRELOAD": library, "REFUSED_FILE": HUGE}
         status = subprocess.run([self.path, *words], env=env, timeout=LIMIT, **how).returncode
         got = []
         for number, stream in streams.items():

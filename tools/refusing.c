@@ -7,7 +7,7 @@
    many growths it asked for, how many starts, how many of these were refused, how many threads were left running, and
    the most bytes that it held beyond those before it.
 
-   A file of the name REFUSED_FILE is not opened: the system has no memory for it. */
+   A file whose name begins with REFUSED_FILE is not opened: the system has no memory for it. */
 typedef unsigned long size;
 extern void *__libc_malloc(size), *__libc_realloc(void *, size), __libc_free(void *);
 extern size malloc_usable_size(void *);
@@ -16,7 +16,9 @@ extern void *dlsym(void *, const char *);
 extern char *getenv(const char *);
 extern long atol(const char *);
 extern int usleep(unsigned);
-extern int strcmp(const char *, const char *);
+extern size strlen(const char *);
+extern char *strrchr(const char *, int);
+extern int strncmp(const char *, const char *, size);
 extern int dprintf(int, const char *, ...);
 extern int *__errno_location(void);
 
@@ -173,8 +175,8 @@ long __write(int to, const char *bytes, size n)
 
 int open(const char *name, int flags, unsigned mode)
 {
-    const char *refused = getenv("REFUSED_FILE");
-    if (refused && !strcmp(name, refused)) {
+    const char *refused = getenv("REFUSED_FILE"), *last = strrchr(name, '/');
+    if (refused && !strncmp(last ? last + 1 : name, refused, strlen(refused))) {
         *__errno_location() = NO_MEMORY;
         return -1;
     }
