@@ -59,7 +59,8 @@ def ask(asked: Asked, row: Row) -> str | None:
         return str(built)
     if row.asked.endswith(".class"):
         length = len(files[row.asked]).to_bytes(4, "big")
-        return None if length + files[row.asked] in image else "other bytes"
+        found = "same" if length + files[row.asked] in image else "other bytes"
+        return None if found == row.wanted else found
     if row.asked == "report":
         told, found = asked.run("report", *files).out.decode(), (held("report") or b"").decode()
         return None if told == found == row.wanted else f"{told}, and beside the image {found}"

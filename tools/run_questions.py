@@ -114,7 +114,8 @@ def stepped(asked: Asked, program: Program, files: list[bytes], about: str, want
         return f"{count} steps: {told(replayed)}"
     words = ["lazy", "--entries", entry(name), *names_for(files)]
     if not is_moved:
-        return ended(asked, program, [*words, "--limit", count], stands, prints)
+        found = ended(asked, program, [*words, "--limit", count], stands, prints)
+        return found or (None if (more, after) == ("0", stands + prints) else "another sight after it")
     if endings(replayed, program.classes) != [stands] or not is_text(replayed.out, prints):
         return told(replayed)
     return run_otherwise(asked, program, words, f"{int(count) + int(more)} {after}", 10_000 + int(count))
