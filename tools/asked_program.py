@@ -66,8 +66,8 @@ class Asked:
         return Answer(status, *(os.pread(file, os.fstat(file).st_size, 0) for file in (self.out, self.errors)))
 
     def run_with(self, words: list[str], rooms: dict[int, int], library: str | None) -> Answer:
-        """Runs a command where streams, by their numbers, fail after so many bytes, and where there is no memory for the
-        file `huge`, by the library that refuses."""
+        """Runs a command where streams, by their numbers, fail after so many bytes, and where there is no memory for
+        the file `huge`, by the library that refuses."""
         streams = {number: tempfile.TemporaryFile() for number in (1, 2)}
         begins = {number: LONGEST - rooms[number] if number in rooms else 0 for number in streams}
         for number, stream in streams.items():

@@ -4,10 +4,10 @@
   tools/assembled.py           writes crates/product_cases/data/assembled anew
   tools/assembled.py --check   ends in 1 where it holds something else, as `./test` does
 
-The texts in the other folders of `crates/product_cases/data` are for readers and are what is changed by hand. In what is
-made of them each class is the digits of its class file, on a line; a question with a reference has behind ` | ` the
-class file of one more class, `Asking`, whose constant pool has it, and its index there. Of `memory/images.txt` each line
-is an image, with its digest.
+The texts in the other folders of `crates/product_cases/data` are for readers and are what is changed by hand. In what
+is made of them each class is the digits of its class file, on a line; a question with a reference has behind ` | ` the
+class file of one more class, `Asking`, whose constant pool has it, and its index there. Of `memory/images.txt` each
+line is an image, with its digest.
 """
 import glob
 import os

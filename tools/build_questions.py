@@ -1,13 +1,13 @@
-"""Questions of classes that builds answer: `linking`, `options`, `verdicts`, `uses` and `images`, by `report`, `explain`
-and `build`. Given are classes; a fault of reading, of linking or of a list is an answer too.
+"""Questions of classes that builds answer: `linking`, `options`, `verdicts`, `uses` and `images`, by `report`,
+`explain` and `build`. Given are classes; a fault of reading, of linking or of a list is an answer too.
 
 - `linking`: `link`, whether they make a program; `numbers`, the names of all, by their numbers.
 - `options`: `force LIST`, the classes that a list for run time forces; `demand LIST`, those that one for build time
   demands, `demand LIST but OTHER` where the other list forces some. A class is demanded where a build is refused when
   its initializer prints.
 - `verdicts`: `judge`, the verdict on each class, `judge LIST` where the list forces some.
-- `uses`: `marks CLASS`, what the code that may run when a class is initialized is marked for, each with a method, as its
-  class and its place there, and a pc.
+- `uses`: `marks CLASS`, what the code that may run when a class is initialized is marked for, each with a method, as
+  its class and its place there, and a pc.
 """
 import re
 

@@ -1,12 +1,12 @@
 """Questions of the text form of classes (`class_bytes`), and of reading class files (`class_files`).
 
-`class_bytes` ask `class_text.py`, by which the class files of all other questions are made: given is a class, and asked
-are `length`, for that of its file, or an offset and a length, for the bytes that stand there.
+`class_bytes` ask `class_text.py`, by which the class files of all other questions are made: given is a class, and
+asked are `length`, for that of its file, or an offset and a length, for the bytes that stand there.
 
-`class_files` ask what reading a file answers: a fault, or `read`. Given is the file, with `{}` for what is asked; before
-a colon stands only what that is. Of a file without `{}` asked are `at OFFSET BYTES`, with other bytes there; `first
-LENGTH`, that many of its bytes; and `then BYTES`, more after it. A file that is read makes a program, or a fault of
-linking; where it makes one its image has the same bytes.
+`class_files` ask what reading a file answers: a fault, or `read`. Given is the file, with `{}` for what is asked;
+before a colon stands only what that is. Of a file without `{}` asked are `at OFFSET BYTES`, with other bytes there;
+`first LENGTH`, that many of its bytes; and `then BYTES`, more after it. A file that is read makes a program, or a
+fault of linking; where it makes one its image has the same bytes.
 """
 import case_files
 import class_text

@@ -1,5 +1,5 @@
-"""Questions of the class files of a real compiler, `java`: PROGRAM_CLASS.class of each program, what a run of its `main`
-prints and how it ends in PROGRAM.txt, and the report of its build in PROGRAM_report.txt.
+"""Questions of the class files of a real compiler, `java`: PROGRAM_CLASS.class of each program, what a run of its
+`main` prints and how it ends in PROGRAM.txt, and the report of its build in PROGRAM_report.txt.
 
 Each class file is asked for: it is in the image of a build, byte for byte. Of each program are asked the report, and
 what is shown by a run of its `main` from the class files, and from their image.

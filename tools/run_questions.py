@@ -5,7 +5,8 @@ the files makes no difference, so both ends are tried. A fault of reading, of li
 Asked are
 
 - `run CLASS LIMIT`, a run by turns, as the number of its steps, how the thread stands, and each print;
-- `step CLASS COUNT`, so many steps, what the last one gave and what is seen then, and what a run by turns does after it;
+- `step CLASS COUNT`, so many steps, what the last one gave and what is seen then, and what a run by turns does after
+  it;
 - `start 'CLASS' ..`, whether a run may start with these entries (`65*'M'` is 65 of them);
 - `turns 'CLASS' ..`, a run by turns of them, as how many steps each thread makes, how it stands and what it prints;
 - `schedule 'CLASS' .. | THREAD STEPS ..`, the same after the steps of a schedule; a thread that has no step is told.

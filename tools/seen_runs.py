@@ -19,7 +19,8 @@ FIRST_REFUSAL = 1
 
 @dataclass
 class Program:
-    """Class files as the commands name them: their names, and the names of the classes in the order of their numbers."""
+    """Class files as the commands name them: their names, and the names of the classes in the order of their
+    numbers."""
 
     files: list[bytes]
     classes: list[str]

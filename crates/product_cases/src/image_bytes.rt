@@ -5,11 +5,11 @@ use crate::hex::bytes_of;
 use crate::image_sinks::failing;
 use image_reader::{read, world};
 
-/// Given is an image. Asked are `cuts` and `changes`: what reading its first bytes answers, by their number, and reading
-/// it with all bits of one byte changed, by its offset; a number is told where the answer is another than that of the
-/// number before. `failing` is how many writes of it into sinks that fail after fewer bytes, and into ones that answer
-/// 0, tell how many went out, of how many each. `start` is whether a run may start from it without entries, which no
-/// command can ask.
+/// Given is an image. Asked are `cuts` and `changes`: what reading its first bytes answers, by their number, and
+/// reading it with all bits of one byte changed, by its offset; a number is told where the answer is another than that
+/// of the number before. `failing` is how many writes of it into sinks that fail after fewer bytes, and into ones that
+/// answer 0, tell how many went out, of how many each. `start` is whether a run may start from it without entries,
+/// which no command can ask.
 pub fn ask(answer: &mut Answer, given: &str, asked: &str) {
     let bytes = bytes_of(answer, given);
     match asked {
