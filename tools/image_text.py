@@ -1,11 +1,10 @@
 """The bytes of an image of version 2, taken apart: `JPIM`, 0002, the class files, each after its length, a region or 00
 for each class, and the digest. A region is the number of objects that were made, the values of the static fields, the
 number of objects that are kept, and each of them after its number."""
-import struct
-from dataclasses import dataclass
-
-import sys
 import os
+import struct
+import sys
+from dataclasses import dataclass
 
 sys.path.append(f"{os.path.dirname(os.path.dirname(os.path.realpath(__file__)))}/bench")
 import class_model

@@ -18,6 +18,7 @@ import build_questions
 import case_files
 import class_questions
 import command_questions
+import image_questions
 import java_questions
 import program
 import refusals
@@ -29,7 +30,7 @@ ASKERS = {
     "class_bytes": class_questions.of_bytes,
     "class_files": class_questions.of_file,
     "commands": command_questions.ask,
-    "images": build_questions.of_image,
+    "images": image_questions.of_image,
     "images/runs.txt": run_questions.of_image,
     "java": java_questions.ask,
     "linking": build_questions.of_linking,
