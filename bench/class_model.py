@@ -1,6 +1,6 @@
 """Class files as values, the built-in classes, and the relations between classes (JVMS 4, 5.4.3), read anew.
 
-Nothing here is made to be fast, or to be safe on bad files: it reads what `case_files` puts together or a compiler
+Nothing here is made to be fast, or to be safe on bad files: it reads what `class_text` puts together or a compiler
 wrote.
 """
 import struct

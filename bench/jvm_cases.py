@@ -1,5 +1,5 @@
 #!/usr/bin/env python3
-"""Asks the JVM at hand the questions of crates/product_cases/data/runs, and compares what it shows with their answers.
+"""Asks the JVM at hand the questions of questions/runs, and compares what it shows with their answers.
 
   bench/jvm_cases.py [--list] [FILE..]     these files of data/runs, or all, and then the programs of data/java
 
@@ -24,7 +24,10 @@ import sys
 import tempfile
 from collections import Counter
 
+import tools_on_path
 import case_files
+import class_text
+import java_questions
 
 HERE = os.path.dirname(os.path.realpath(__file__))
 
@@ -82,7 +85,7 @@ def with_constructor(line, made):
     """A class with a constructor, where it has none, and with two more places in each stack."""
     if not made or not re.match("class |interface ", line):
         return line
-    given = case_files.class_of(line)
+    given = class_text.class_of(line)
     head, _, _ = line.partition(": ")
     members = [with_room(member) for member in given.members]
     has_one = any(re.match(r"(\S+ )*<init>\(\)V", member) for member in members)
@@ -116,9 +119,9 @@ def program_of(lines):
     """The names and files of the classes of lines."""
     for line in with_constructors(lines):
         if line.startswith("bytes "):
-            yield None, case_files.spelled(line[6:])
+            yield None, class_text.spelled(line[6:])
         elif line.strip():
-            given = case_files.class_of(line)
+            given = class_text.class_of(line)
             given.version = 52 if needs_52(line) else 49
             yield given.name, given.file()
 
@@ -138,7 +141,7 @@ def name_in(file):
 
 
 def digits_of(name):
-    return b"".join(unit.to_bytes(2, "big") for unit in case_files.units(name)).hex()
+    return b"".join(unit.to_bytes(2, "big") for unit in class_text.units(name)).hex()
 
 
 def line_of(question):
@@ -148,7 +151,7 @@ def line_of(question):
     words = [digits_of(entry)]
     for name, file in program:
         words += [digits_of(name), file.hex()]
-    return " ".join(words), sorted((name for name, _ in program), key=case_files.modified_utf8)
+    return " ".join(words), sorted((name for name, _ in program), key=class_text.modified_utf8)
 
 
 def asked_for():
@@ -214,22 +217,10 @@ def answers(lines):
 
 def java_programs():
     """The programs of a compiler: the entry, the files, and the text that is wanted with its last line, the end."""
-    data = os.path.join(case_files.RUNS, "..")
-    files = []
-    with open(os.path.join(data, "..", "args"), encoding="utf-8") as args:
-        words = args.read().split()
-    for word in words:
-        if word.startswith("report="):
-            continue
-        if word.endswith(".class"):
-            with open(os.path.join(data, word), "rb") as file:
-                files.append(file.read())
-        elif "=" in word:
-            entry, _, name = word.partition("=")
-            with open(os.path.join(data, name), encoding="utf-8") as file:
-                yield name, entry, files, file.read()
-        if not word.endswith(".class"):
-            files = []
+    for program in java_questions.programs():
+        files = list(java_questions.files_of(program).values())
+        entry = java_questions.ENTRIES.get(program, "Main")
+        yield program, entry, files, java_questions.text(f"{program}.txt")
 
 
 def asked_of_java():
@@ -240,7 +231,7 @@ def asked_of_java():
     others = 0
     for (name, _, files, wanted), answer in zip(programs, answers(lines)):
         ended, _, rest = answer.partition(" :")
-        known = sorted((name_in(file) for file in files), key=case_files.modified_utf8)
+        known = sorted((name_in(file) for file in files), key=class_text.modified_utf8)
         ends = {"returned": "Returned", **{one: f"Uncaught(Given({place}))" for place, one in enumerate(known)}}
         shown = bytes.fromhex(rest.split(" ")[0]).decode() + ends.get(ended, ended) + "\n"
         if shown != wanted:

@@ -1,7 +1,7 @@
 #!/usr/bin/env python3
 """Runs the cases of runs by a second interpreter, and tells what they have of each instruction.
 
-  bench/opcode_cases.py [FILE..]     these files of crates/product_cases/data/runs, or all
+  bench/opcode_cases.py [FILE..]     these files of questions/runs, or all
 
 Each answer that says how a run ends (its steps, its ending, what is printed) is compared with the interpreter's of
 second_machine.py; a row that differs is shown. Then comes a row for each instruction of the profile: in how many
@@ -15,8 +15,10 @@ import os
 import sys
 from collections import Counter
 
+import tools_on_path
 import case_files
-from case_files import MNEMONICS
+import class_text
+from class_text import MNEMONICS
 from second_machine import LEFT_OUT, Machine
 
 COLUMNS = ("done", "extreme", "raise", "kind", "empty", "full", "local", "jump", "reference", "Missing")
@@ -69,7 +71,7 @@ def answered(row):
     if not question or not row.wanted[0].isdigit():
         return None
     lines, entry, limit = question
-    files = [case_files.spelled(line[6:]) if line.startswith("bytes ") else case_files.class_of(line).file()
+    files = [class_text.spelled(line[6:]) if line.startswith("bytes ") else class_text.class_of(line).file()
              for line in lines if line.strip()]
     return Machine(files, entry).run(limit)
 

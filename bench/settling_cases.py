@@ -1,7 +1,7 @@
 #!/usr/bin/env python3
 """Settles the classes of the cases of reports by a second interpreter, and compares what becomes of each.
 
-  bench/settling_cases.py [FILE..]     these files of product_cases/data/commands, or settling.txt, reports.txt and
+  bench/settling_cases.py [FILE..]     these files of questions/commands, or settling.txt, reports.txt and
                                        long_initializers.txt
 
 Asked are the reports of builds without lists of options. Which classes are refused by their code alone is taken from
@@ -13,13 +13,14 @@ import os
 import re
 import sys
 
+import tools_on_path
 import case_files
+import class_text
 import class_model as model
 from second_instructions import new_class, reference
 from second_machine import Ended, Frame, Instance, Machine, Raised, sweep
 
-HERE = os.path.dirname(os.path.realpath(__file__))
-COMMANDS = os.path.join(HERE, "..", "crates", "product_cases", "data", "commands")
+COMMANDS = os.path.join(case_files.QUESTIONS, "commands")
 
 # Reasons that the code of a class decides, before any initializer runs.
 BY_CODE = ("Forced", "Prints", "Throws", "Monitors", "ForeignWrite", "ForeignRead", "Unsupported", "Missing", "Cycle")
@@ -195,7 +196,7 @@ def program_of(row):
         file, _, text = line.partition(" = ")
         shelf.setdefault(file, text)
     wanted = dict(line.split(" ", 1) for line in answer[1].split(";") if line)
-    files = [case_files.class_of(shelf[file]).file() for file in asked[2].split()]
+    files = [class_text.class_of(shelf[file]).file() for file in asked[2].split()]
     return Program(files, wanted, int(asked[1] or 1_000_000))
 
 

@@ -21,9 +21,9 @@ WORKS = {b"reading class files", b"linking", b"initializing One", b"writing what
 OLD = b"old"
 # Classes of a real compiler, one whose `main` reaches what is left out, one that prints 7, and one whose initializer
 # runs so long that `evaluator` goes on by courses.
-CLASSES = "product_cases/data/java/init_enum_basic_*.class"
-LEFT_OUT, SEVEN = "product_cases/data/java/lambda_Main.class", "preinit/data/M.class"
-LONG = "product_cases/data/java/algo_crc_adler_Crc.class"
+CLASSES = "questions/java/init_enum_basic_*.class"
+LEFT_OUT, SEVEN = "questions/java/lambda_Main.class", "crates/preinit/data/M.class"
+LONG = "questions/java/algo_crc_adler_Crc.class"
 
 
 def commands(classes):
@@ -112,16 +112,16 @@ def refuse_each(program, words, status, targets, what):
             return number - 1, f"it never tells {untold}" if untold else None if number > 1 else "it asks for none"
 
 
-def check(path, library, crates, room, say):
-    """Tries each command of the program at a path, over classes of these crates. Answers how many passed and how many
+def check(path, library, root, room, say):
+    """Tries each command of the program at a path, over classes of the repository. Answers how many passed and how many
     failed."""
     folder = f"{room}/commands"
     os.mkdir(folder)
-    for file in glob.glob(f"{crates}/{CLASSES}"):
+    for file in glob.glob(f"{root}/{CLASSES}"):
         shutil.copy(file, folder)
     made = commands(sorted(os.listdir(folder)))
     for file in (LEFT_OUT, SEVEN, LONG):
-        shutil.copy(f"{crates}/{file}", folder)
+        shutil.copy(f"{root}/{file}", folder)
     tried = []
     for place, (words, status, targets, starts) in enumerate(made):
         refusals.Program(path, folder, library).ended(*words)

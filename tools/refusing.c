@@ -5,7 +5,9 @@
    REFUSED_CALL, the number of the call, from 1, and REFUSED_GROWTH or REFUSED_START, a number from 1 in that call. With
    WHOLE_RUN=1 the whole run is one call, of the number 0. Of each call a line goes to the file descriptor TOLD: how
    many growths it asked for, how many starts, how many of these were refused, how many threads were left running, and
-   the most bytes that it held beyond those before it. */
+   the most bytes that it held beyond those before it.
+
+   A file whose name begins with REFUSED_FILE is not opened: the system has no memory for it. */
 typedef unsigned long size;
 extern void *__libc_malloc(size), *__libc_realloc(void *, size), __libc_free(void *);
 extern size malloc_usable_size(void *);
@@ -14,10 +16,13 @@ extern void *dlsym(void *, const char *);
 extern char *getenv(const char *);
 extern long atol(const char *);
 extern int usleep(unsigned);
+extern size strlen(const char *);
+extern char *strrchr(const char *, int);
+extern int strncmp(const char *, const char *, size);
 extern int dprintf(int, const char *, ...);
 extern int *__errno_location(void);
 
-enum { WRITE = 1, EXIT_GROUP = 231, OUTPUT = 1, NO_MEMORY = 12, TRY_AGAIN = 11, LONGEST_WAIT = 2000 };
+enum { WRITE = 1, OPEN = 2, EXIT_GROUP = 231, OUTPUT = 1, NO_MEMORY = 12, TRY_AGAIN = 11, LONGEST_WAIT = 2000 };
 
 static long whole_run, refused_call, refused_growth, refused_start, told;
 static _Atomic long is_open, calls, growths, starts, refusals, running, held, before, most;
@@ -166,4 +171,14 @@ long write(int to, const char *bytes, size n)
 long __write(int to, const char *bytes, size n)
 {
     return write(to, bytes, n);
+}
+
+int open(const char *name, int flags, unsigned mode)
+{
+    const char *refused = getenv("REFUSED_FILE"), *last = strrchr(name, '/');
+    if (refused && !strncmp(last ? last + 1 : name, refused, strlen(refused))) {
+        *__errno_location() = NO_MEMORY;
+        return -1;
+    }
+    return syscall(OPEN, name, flags, mode);
 }

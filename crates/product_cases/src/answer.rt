@@ -40,10 +40,6 @@ impl Answer {
         self.text.as_str()
     }
 
-    pub fn clear(&mut self) {
-        self.text.clear();
-    }
-
     /// Notes that memory was refused.
     pub fn refuse(&mut self) {
         self.is_refused = true;
@@ -81,6 +77,24 @@ impl Answer {
     /// Adds a text between brackets, after a space.
     pub fn bracketed(&mut self, text: &str) {
         let written = write!(self.text, " [{text}]");
+        self.note(written);
+    }
+
+    /// Adds what is shown of a value, between parentheses.
+    pub fn parenthesized<T: Display>(&mut self, value: &T) {
+        let written = write!(self.text, "({value})");
+        self.note(written);
+    }
+
+    /// Adds what a programmer sees of a value, between parentheses.
+    pub fn parenthesized_debug<T: Debug>(&mut self, value: &T) {
+        let written = write!(self.text, "({value:?})");
+        self.note(written);
+    }
+
+    /// Adds what a programmer sees of two values, between parentheses.
+    pub fn pair<T: Debug, U: Debug>(&mut self, first: &T, second: &U) {
+        let written = write!(self.text, "({first:?}, {second:?})");
         self.note(written);
     }
 

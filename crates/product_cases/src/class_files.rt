@@ -1,114 +1,26 @@
-//! The bytes of class files, and what reading them answers.
+//! Class files, their parts by their accessors, and names of classes.
 
 use crate::answer::Answer;
-use crate::runs::name_of;
-use cases::{SpelledBytes, filled, spelled};
-use classfile::{ClassFile, ClassName, ModifiedUtf8, printed, read, write};
-use std::alloc::{AllocError, Global};
+use crate::hex::bytes_of;
+use classfile::{ClassFile, ClassName, ModifiedUtf8, printed, read};
+use std::alloc::AllocError;
 
-/// What reading a class file answers: a fault, or `read` where the same bytes are written back.
-///
-/// Given is the file, with `{}` for what is asked; before a colon stands only what that is. Of a file without `{}`
-/// asked are `at OFFSET BYTES`, with other bytes there; `first LENGTH`, that many of its bytes; `then BYTES`, more
-/// after it; `parts`; and `entries`. Without a file `name TEXT` asks for the forms of a class's name, and `units
-/// TEXT` for those of one with any units.
+/// Given is a class file. Asked are `parts`, and `entries`, what stands at the first indices of its pool. Without a
+/// file `name TEXT` asks for the forms of a class's name, and `units BYTES` for those of one of these bytes.
 pub fn ask(answer: &mut Answer, given: &str, asked: &str) {
-    if given.is_empty() {
-        return of_name(answer, asked);
-    }
-    match file_of(answer.alloc, given, asked) {
-        Ok(file) => of_file(answer, &file, asked),
-        Err(_) => answer.refuse(),
-    }
-}
-
-fn file_of(alloc: Global, given: &str, asked: &str) -> Result<SpelledBytes, AllocError> {
-    if given.contains("{}") {
-        let (_, parts) = asked.split_once(": ").unwrap_or(("", asked));
-        return spelled_text(alloc, filled(alloc, given, parts));
-    }
     match asked.split_once(' ') {
-        Some(("first", length)) => cut(alloc, given, length),
-        Some(("then", more)) => spelled_text(alloc, format!(in alloc; "{given} {more}")),
-        Some(("at", change)) => overwritten(alloc, given, change),
-        _ => spelled(alloc, given),
+        Some(("name", text)) => of_text(answer, text),
+        Some((_, digits)) => of_units(answer, digits),
+        None => of_file(answer, given, asked),
     }
 }
 
-fn spelled_text(
-    alloc: Global,
-    text: Result<String, AllocError>,
-) -> Result<SpelledBytes, AllocError> {
-    match text {
-        Ok(text) => spelled(alloc, &text),
-        Err(error) => Err(error),
-    }
-}
-
-/// The first bytes of a file.
-fn cut(alloc: Global, given: &str, length: &str) -> Result<SpelledBytes, AllocError> {
-    match spelled(alloc, given) {
-        Ok(mut file) => {
-            file.bytes.truncate(length.parse().unwrap_or(usize::MAX));
-            Ok(file)
-        }
-        Err(error) => Err(error),
-    }
-}
-
-/// A file with other bytes in the place of those from an offset on.
-fn overwritten(alloc: Global, given: &str, change: &str) -> Result<SpelledBytes, AllocError> {
-    let (offset, bytes) = change.split_once(' ').unwrap_or((change, ""));
-    let Ok(other) = spelled(alloc, bytes) else {
-        return Err(AllocError);
-    };
-    match spelled(alloc, given) {
-        Ok(file) => joined(file, offset.parse().unwrap_or(usize::MAX), &other),
-        Err(error) => Err(error),
-    }
-}
-
-fn joined(
-    mut file: SpelledBytes,
-    offset: usize,
-    other: &SpelledBytes,
-) -> Result<SpelledBytes, AllocError> {
-    overwrite(&mut file.bytes, offset, &other.bytes);
-    match file.misspelled.push_str(&other.misspelled) {
-        Ok(()) => Ok(file),
-        Err(error) => Err(error),
-    }
-}
-
-fn overwrite(bytes: &mut Vec<u8>, offset: usize, others: &[u8]) {
-    for (place, byte) in bytes.iter_mut().skip(offset).zip(others) {
-        *place = *byte;
-    }
-}
-
-fn of_file(answer: &mut Answer, file: &SpelledBytes, asked: &str) {
-    if !file.misspelled.is_empty() {
-        return answer.word(&file.misspelled);
-    }
-    match read(answer.alloc, &file.bytes) {
-        Ok(class) => of_class(answer, &class, &file.bytes, asked),
+fn of_file(answer: &mut Answer, given: &str, asked: &str) {
+    let file = bytes_of(answer, given);
+    match read(answer.alloc, &file) {
+        Ok(class) if asked == "parts" => add_parts(answer, &class),
+        Ok(class) => add_entries(answer, &class),
         Err(fault) => answer.show(&fault),
-    }
-}
-
-fn of_class(answer: &mut Answer, class: &ClassFile, bytes: &[u8], asked: &str) {
-    match asked {
-        "parts" => add_parts(answer, class),
-        "entries" => add_entries(answer, class),
-        _ => write_back(answer, class, bytes),
-    }
-}
-
-fn write_back(answer: &mut Answer, class: &ClassFile, bytes: &[u8]) {
-    match write(answer.alloc, class) {
-        Ok(written) if written.as_slice() == bytes => answer.word("read"),
-        Ok(_) => answer.word("written otherwise"),
-        Err(_) => answer.refuse(),
     }
 }
 
@@ -152,14 +64,6 @@ fn add_text(answer: &mut Answer, bytes: Option<&[u8]>) {
     }
 }
 
-fn of_name(answer: &mut Answer, asked: &str) {
-    match asked.split_once(' ') {
-        Some(("name", text)) => of_text(answer, text),
-        Some(("units", text)) => of_units(answer, text),
-        _ => answer.word("no question"),
-    }
-}
-
 fn of_text(answer: &mut Answer, text: &str) {
     match ClassName::from_text(answer.alloc, text) {
         Ok(name) => add_forms(answer, name.units(), name.modified_utf8(answer.alloc)),
@@ -167,8 +71,9 @@ fn of_text(answer: &mut Answer, text: &str) {
     }
 }
 
-fn of_units(answer: &mut Answer, text: &str) {
-    match name_of(answer.alloc, text) {
+fn of_units(answer: &mut Answer, digits: &str) {
+    let bytes = bytes_of(answer, digits);
+    match ClassName::from_modified_utf8(answer.alloc, &bytes) {
         Ok(name) => {
             let spelled = ModifiedUtf8::from_units(answer.alloc, name.units());
             add_forms(answer, name.units(), spelled)

@@ -30,14 +30,6 @@ pub fn given(answer: &mut Answer, program: &Program, class: &str) -> Option<u32>
     number
 }
 
-/// The names of all classes, by their numbers.
-pub fn add_all(answer: &mut Answer, program: &Program) {
-    for number in 0..u32::try_from(program.class_count()).unwrap_or(0) {
-        add_name(answer, program, number);
-    }
-    answer.or_nothing()
-}
-
 /// The given superclasses of a class, nearest first.
 pub fn add_superclasses(answer: &mut Answer, program: &Program, class: &str) {
     if let Some(class) = given(answer, program, class) {

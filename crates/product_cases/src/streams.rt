@@ -1,47 +1,6 @@
 //! Streams that fail.
 
-ghost use Rattle.std.specs.Prelude.{Some};
-
-use std::alloc::Global;
 use std::io::{self, ErrorKind, Write};
-
-/// A stream that takes so many bytes, which it keeps, and then fails, in `flush` too.
-#[derive(Drop)]
-pub struct Narrow {
-    room: usize,
-    pub got: Vec<u8>,
-}
-
-impl Narrow {
-    pub fn new(alloc: Global, room: usize) -> Narrow {
-        Narrow {
-            room,
-            got: Vec::new(alloc),
-        }
-    }
-}
-
-impl Write for Narrow {
-    ghost contents = { λ s. Some s.got.items };
-
-    fn write(&mut self, bytes: &[u8]) -> io::Result<usize> {
-        let taken = bytes.len().min(self.room);
-        if taken == 0 && !bytes.is_empty() {
-            return Err(io::Error::from(ErrorKind::BrokenPipe));
-        }
-        self.got.extend_from_slice(&bytes[..taken])?;
-        self.room -= taken;
-        Ok(taken)
-    }
-
-    fn flush(&mut self) -> io::Result<()> {
-        if self.room == 0 {
-            Err(io::Error::from(ErrorKind::BrokenPipe))
-        } else {
-            Ok(())
-        }
-    }
-}
 
 /// A stream that takes one byte a call, so many of them, and then fails, or answers 0. It holds them against those that
 /// are wanted.

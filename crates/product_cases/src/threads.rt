@@ -4,6 +4,7 @@
 //! Each wait ends after ten seconds, and is told then.
 
 mod commits;
+mod entries;
 mod gates;
 mod meeting;
 mod plan;
@@ -14,20 +15,19 @@ mod starts;
 mod worker_gates;
 
 use crate::answer::Answer;
+use crate::hex::{classes_of, files_of};
 use crate::threads::plan::halves;
-use cases::read_class_files;
-use classfile::{ClassFile, read};
+use classfile::ClassFile;
 use program::{Program, link};
 use std::sync::Wait;
 use std::thread::Threads;
 
 /// Given are classes. Asked is `run`, `commits` or `settle`, and then what `runs`, `commits` or `settling` says.
 pub fn ask<R: Threads + Wait + Sync>(rt: &R, answer: &mut Answer, given: &str, asked: &str) {
-    let alloc = answer.alloc;
-    match read_class_files(alloc, given, |bytes| read(alloc, bytes).ok()) {
-        Ok(Some(classes)) => of_classes(rt, answer, classes, asked),
-        Ok(None) => answer.word("no classes"),
-        Err(_) => answer.refuse(),
+    let files = files_of(answer, given);
+    match classes_of(answer.alloc, &files) {
+        Ok(classes) => of_classes(rt, answer, classes, asked),
+        Err(fault) => answer.show(&fault),
     }
 }
 

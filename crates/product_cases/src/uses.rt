@@ -3,12 +3,11 @@
 use crate::answer::Answer;
 use crate::members::{add_member, add_names, given};
 use program::Program;
-use use_graph::class_uses::{Marks, Uses};
-use use_graph::mark::Evidence;
+use use_graph::class_uses::Uses;
 use use_graph::uses;
 
-/// Asked are of a class `runs`, the methods that may run when it is initialized, in no promised order; `uses`, the
-/// classes that its initialization may use; and `marks`, what its code is marked for, each with a method and a pc.
+/// Asked are of a class `runs`, the methods that may run when it is initialized, in no promised order; and `uses`, the
+/// classes that its initialization may use.
 pub fn ask(answer: &mut Answer, program: &Program, word: &str, class: &str) {
     if let Some(number) = given(answer, program, class) {
         match uses(answer.alloc, program, number) {
@@ -21,8 +20,7 @@ pub fn ask(answer: &mut Answer, program: &Program, word: &str, class: &str) {
 fn of_uses(answer: &mut Answer, program: &Program, word: &str, found: &Uses) {
     match word {
         "runs" => add_methods(answer, program, found),
-        "uses" => add_names(answer, program, &found.classes),
-        _ => add_marks(answer, program, &found.marks),
+        _ => add_names(answer, program, &found.classes),
     }
 }
 
@@ -45,25 +43,4 @@ fn is_among(found: &Uses, class: u32, index: u16) -> bool {
         }
     }
     false
-}
-
-fn add_marks(answer: &mut Answer, program: &Program, marks: &Marks) {
-    add_mark(answer, program, "Prints ", marks.prints);
-    add_mark(answer, program, "Throws ", marks.throws);
-    add_mark(answer, program, "Monitors ", marks.monitors);
-    add_mark(answer, program, "ForeignWrite ", marks.foreign_write);
-    add_mark(answer, program, "ForeignRead ", marks.foreign_read);
-    add_mark(answer, program, "Unsupported ", marks.unsupported);
-    add_mark(answer, program, "Missing ", marks.missing);
-    answer.or_nothing()
-}
-
-fn add_mark(answer: &mut Answer, program: &Program, name: &str, evidence: Option<Evidence>) {
-    if let Some(evidence) = evidence {
-        answer.separate(", ");
-        answer.word(name);
-        add_member(answer, program, evidence.class, evidence.index);
-        answer.word(" at ");
-        answer.show(&evidence.pc)
-    }
 }

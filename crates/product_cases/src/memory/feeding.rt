@@ -2,11 +2,8 @@
 
 use super::inputs::{Random, Spoiling, spoilt};
 use super::page::Page;
-use super::programs::shelf_of;
 use super::readers::Reader;
 use crate::answer::Answer;
-use crate::image_bytes::body;
-use crate::shelf::Shelf;
 use program::Program;
 use std::alloc::Global;
 use std::io::Write;
@@ -15,6 +12,9 @@ use std::io::Write;
 const RANDOM_INPUTS: u32 = 1_000;
 
 const RANDOM_LENGTH: usize = 400;
+
+/// How many bytes the digest of an image has.
+const DIGEST: usize = 32;
 
 /// Journals: one that has a run, and one with the greatest numbers.
 const JOURNALS: [&str; 2] = [
@@ -101,14 +101,11 @@ pub fn feed<W: Write>(
     name: &str,
     program: &Program,
     files: &[Vec<u8>],
-    images: &str,
+    images: &[Vec<u8>],
 ) {
     match name {
         "class_files" => feed_all(page, Reader::ClassFiles, program, files),
-        "images" => match shelf_of(page.alloc, files, images) {
-            Some(shelf) => feed_images(page, program, &shelf, images),
-            None => page.give_up(),
-        },
+        "images" => feed_images(page, program, images),
         "journals" => feed_texts(page, Reader::Journals, program, &JOURNALS),
         "lists" => feed_texts(page, Reader::Lists, program, &[LIST]),
         "entries" => feed_texts(page, Reader::Entries, program, &[ENTRIES]),
@@ -116,14 +113,14 @@ pub fn feed<W: Write>(
     }
 }
 
-/// Feeds the images of a shelf, which lines name, without their digests.
-fn feed_images<W: Write>(page: &mut Page<'_, W>, program: &Program, shelf: &Shelf, lines: &str) {
-    let mut images = Vec::new(page.alloc);
-    for line in lines.lines() {
-        let (name, _) = line.split_once(' ').unwrap_or((line, ""));
-        add_input(page, &mut images, body(shelf.find(name).unwrap_or(&[])));
+/// Feeds images without their digests.
+fn feed_images<W: Write>(page: &mut Page<'_, W>, program: &Program, images: &[Vec<u8>]) {
+    let mut bodies = Vec::new(page.alloc);
+    for image in images {
+        let length = image.len().saturating_sub(DIGEST);
+        add_input(page, &mut bodies, image.get(..length).unwrap_or(&[]));
     }
-    feed_all(page, Reader::Images, program, &images)
+    feed_all(page, Reader::Images, program, &bodies)
 }
 
 /// Feeds the bytes of these texts.

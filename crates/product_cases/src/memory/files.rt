@@ -1,7 +1,7 @@
 //! Calls on class files.
 
 use super::page::Page;
-use crate::programs::classes_of;
+use crate::hex::classes_of;
 use bytecode::decode;
 use classfile::{ClassFile, write};
 use program::link;

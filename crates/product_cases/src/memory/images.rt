@@ -5,7 +5,7 @@ ghost use Rattle.image_format.specs.Images.{AreShort};
 ghost use Rattle.report.specs.Waves.{GiveWaves};
 
 use super::page::Page;
-use super::programs::{linked, shelf_of};
+use super::programs::linked;
 use crate::streams::OneByOne;
 use building::{BuildFault, BuildOptions, Built, build_program, build_program_here};
 use classfile::ClassName;
@@ -41,7 +41,7 @@ pub fn call<R: Threads + Wait + Sync, W: Write>(
     page: &mut Page<'_, W>,
     name: &str,
     files: &[Vec<u8>],
-    images: &str,
+    images: &[Vec<u8>],
 ) {
     match name {
         "build_program_here" | "build_program" => {
@@ -52,8 +52,8 @@ pub fn call<R: Threads + Wait + Sync, W: Write>(
             Ok(built) => render_twice(page, &built),
             Err(_) => page.give_up(),
         },
-        _ => match shelf_of(page.alloc, files, images) {
-            Some(shelf) => of_image(page, name, shelf.find("all").unwrap_or(&[])),
+        _ => match images.first() {
+            Some(all) => of_image(page, name, all),
             None => page.give_up(),
         },
     }

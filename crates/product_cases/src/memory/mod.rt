@@ -1,5 +1,5 @@
 //! Calls that take memory, each made twice over the same things lent, of the classes of `memory/classes.txt`; and
-//! inputs that are fed to readers.
+//! inputs that are fed to readers. The bytes of the classes, and of images, stand in `assembled/memory`.
 //!
 //! A line has the name of a call and what it answered. `MEMORY.md` says what `./test` makes of them.
 
@@ -16,10 +16,12 @@ mod runs;
 mod threads;
 mod verdicts;
 
+use crate::answer::Answer;
+use crate::hex::files_of;
 use feeding::feed;
 use page::Page;
 use program::Program;
-use programs::{files_of, linked};
+use programs::linked;
 use std::io::{self, Write};
 use std::sync::Wait;
 use std::thread::Threads;
@@ -32,12 +34,15 @@ where
     R: rt::Files + AllocGlobal + Threads + Wait + Sync,
     W: Write,
 {
-    let text = fs::read_to_string(rt, "memory/classes.txt")?;
-    let images = fs::read_to_string(rt, "memory/images.txt")?;
+    let files = fs::read_to_string(rt, "assembled/memory/classes.txt")?;
+    let images = fs::read_to_string(rt, "assembled/memory/images.txt")?;
     let mut page = Page::new(rt.alloc(), out);
-    match files_of(rt.alloc(), &text) {
-        Some(files) => of_files(rt, &mut page, word, &files, &images),
-        None => page.give_up(),
+    let mut notes = Answer::new(rt.alloc());
+    let files = files_of(&mut notes, &files);
+    let images = files_of(&mut notes, &images);
+    match notes.finish() {
+        Ok(_) => of_files(rt, &mut page, word, &files, &images),
+        Err(_) => page.give_up(),
     }
     Ok(page.is_well())
 }
@@ -48,7 +53,7 @@ fn of_files<R: Threads + Wait + Sync, W: Write>(
     page: &mut Page<'_, W>,
     word: &str,
     files: &[Vec<u8>],
-    images: &str,
+    images: &[Vec<u8>],
 ) {
     match word.split_once(' ') {
         Some(("files", name)) => files::call(page, name, files),
@@ -68,7 +73,7 @@ fn of_program<R: Threads + Wait + Sync, W: Write>(
     name: &str,
     program: &Program,
     files: &[Vec<u8>],
-    images: &str,
+    images: &[Vec<u8>],
 ) {
     match group {
         "verdicts" => verdicts::call(rt, page, name, program),

@@ -3,13 +3,13 @@
 use super::files::instructions_in;
 use super::programs::start_of;
 use crate::answer::Answer;
-use crate::shelf::add_digest;
 use classfile::ClassFile;
 use cli::entries_of;
 use init_engine::World;
 use journal::{Journal, JournalFault};
 use options::{force, parse};
 use program::{Program, link};
+use sha2::{Digest, Sha256};
 use std::str::from_utf8;
 use thread_runner::replay::{ReplayFault, replay};
 
@@ -72,7 +72,10 @@ fn of_class(answer: &mut Answer, class: ClassFile) {
 
 fn of_image(answer: &mut Answer, bytes: &[u8]) {
     let mut whole = answer.copied(bytes);
-    answer.note(add_digest(&mut whole));
+    let mut hasher = Sha256::new();
+    hasher.update(bytes);
+    let digest = hasher.finalize();
+    answer.note(whole.extend_from_slice(&digest));
     match image_reader::read(answer.alloc, &whole) {
         Ok(_) => answer.word("read"),
         Err(fault) => answer.show(&fault),

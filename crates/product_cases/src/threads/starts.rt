@@ -2,7 +2,7 @@
 
 ghost use Rattle.std.specs.Prelude.{◌≤◌, length};
 
-use crate::runs::entries_of;
+use super::entries::entries_of;
 use classfile::ClassName;
 use init_engine::World;
 use init_engine::starting::{entry_classes, lazy_shared};
