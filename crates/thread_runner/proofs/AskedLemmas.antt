@@ -5,7 +5,7 @@ use Rattle.std.specs.Prelude.{◌&&◌, ◌||◌, ◌==◌, not, if◌then◌els
 use Rattle.std.specs.List.{list_any}
 use Rattle.std.proofs.lemmas.List.Elements.{All-head, All-tail, All-nil, All-cons}
 use Rattle.std.proofs.lemmas.List.Folds.{list_any-append}
-use Rattle.thread_runner.specs.Local.{is_done}
+use Rattle.thread_runner.specs.Unshared.{is_done}
 use Rattle.thread_runner.specs.Fronts.{AreMembers}
 use Rattle.thread_runner.specs.steps.Asked.{has}
 

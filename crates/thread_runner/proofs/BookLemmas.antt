@@ -22,7 +22,7 @@ use Rattle.init_engine.specs.Standing.{Standing}
 use Rattle.init_engine.specs.Turns.{Goes, IsOver, IsTurn, Prints, world_of}
 use Rattle.init_engine.specs.declared.world.Turn.{Turn}
 use Rattle.init_engine.specs.declared.world.Turn.TheVariants as turns
-use Rattle.thread_runner.specs.Local.{local_steps, local_step}
+use Rattle.thread_runner.specs.Unshared.{unshared_steps, unshared_step}
 use Rattle.thread_runner.specs.Stretches.{IsLocalRun, Reach}
 use Rattle.thread_runner.specs.Kept.{Grows, IsBook, IsKept, Pages, Past, steps_of}
 use Rattle.thread_runner.specs.Sendings.{IsPlace, sent_of}
@@ -35,7 +35,8 @@ use Rattle.thread_runner.specs.declared.landing.Landing.TheVariants as landings
 use Rattle.thread_runner.specs.steps.Advances.{answered, counted}
 use Rattle.thread_runner.specs.steps.Landings.{MayLand, landed}
 use Rattle.init_engine.proofs.SetLemmas.{get_set, set_same}
-use Rattle.thread_runner.proofs.LocalLemmas.{set_twice, local_run, replicate-more}
+use Rattle.thread_runner.proofs.LocalLemmas.{are_unshared}
+use Rattle.thread_runner.proofs.UnsharedLemmas.{set_twice, unshared_run, replicate-more}
 use Rattle.thread_runner.proofs.SendingLemmas.{place_grown, place_within, sent_stays}
 
 abbrev with_threads : World → List Thread → World
@@ -45,20 +46,20 @@ pub put_back : (w : World) (t : ℕ) (a b : Thread) → slice_get w.threads t �
     → with_thread (with_thread w t b) t a ≡ w
 put_back w t a b at = ap (with_threads w) (set_twice w.threads t b a ∙ sym (set_same w.threads t a at))
 
--- a thread without frames makes no local step
-no_steps : (P : Tables) (done : List Bool) (n : ℕ) → local_steps P done (suc n) (Going [] []) ≡ None
+-- a thread without frames makes no step
+no_steps : (P : Tables) (done : List Bool) (n : ℕ) → unshared_steps P done (suc n) (Going [] []) ≡ None
 no_steps P done zero = refl
-no_steps P done (suc n) = ap (option_and_then (local_step P done)) (no_steps P done n)
+no_steps P done (suc n) = ap (option_and_then (unshared_step P done)) (no_steps P done n)
 
 none_gone : (P : Tables) (done : List Bool) (n : ℕ) (s : Frames) (b : Thread) → going s ≡ Going [] [] → 0 < n
-    → local_steps P done n (going s) ≢ Some b
+    → unshared_steps P done n (going s) ≢ Some b
 none_gone P done zero s b is some h = omega (arith, some)
 none_gone P done (suc n) s b is some h =
-    let e : None ≡ Some b = sym (no_steps P done n) ∙ (ap (local_steps P done (suc n)) (sym is) ∙ h) in absurd cc
+    let e : None ≡ Some b = sym (no_steps P done n) ∙ (ap (unshared_steps P done (suc n)) (sym is) ∙ h) in absurd cc
 
--- a thread that makes local steps stands so
+-- a thread that makes steps stands so
 stands_so : (P : Tables) (done : List Bool) (n : ℕ) (o : Option Thread) (s : Frames) (b : Thread) → IsStackOf o s
-    → 0 < n → local_steps P done n (going s) ≡ Some b → o ≡ Some (going s)
+    → 0 < n → unshared_steps P done n (going s) ≡ Some b → o ≡ Some (going s)
 stands_so P done n None s b stack some h = absurd stack
 stands_so P done n (Some (Going fs ls)) s b stack some h = ap Some (sym stack)
 stands_so P done n (Some (Ended end)) s b stack some h = absurd (none_gone P done n s b stack some h)
@@ -66,11 +67,15 @@ stands_so P done n (Some (Ended end)) s b stack some h = absurd (none_gone P don
 pub goes_so : (o : Option Thread) (s : Frames) → o ≡ Some (going s) → Goes o
 goes_so o s h = subst Goes (sym h) tt
 
+shares_nothing : (P : Tables) (s : Reach) → IsLocalRun P s
+    → unshared_steps P s.done s.count (going s.from) ≡ Some (going s.to)
+shares_nothing P s run = are_unshared P s.done s.count (going s.from) (going s.to) run
+
 pub has_gone : (P : Tables) (w : World) (t : ℕ) (s : Reach) → Fits w t s → IsLocalRun P s → 0 < s.count
     → Goes (slice_get w.threads t)
 has_gone P w t s fits run some =
     goes_so (slice_get w.threads t) s.from
-    (stands_so P s.done s.count (slice_get w.threads t) s.from (going s.to) fits.0.1 some run)
+    (stands_so P s.done s.count (slice_get w.threads t) s.from (going s.to) fits.0.1 some (shares_nothing P s run))
 
 -- where its frames are, a stretch leads to the world after it
 led_by : (P : Tables) (w : World) (t : ℕ) (s : Reach) (n : ℕ) → s.count ≡ n → Fits w t s → IsLocalRun P s
@@ -78,9 +83,10 @@ led_by : (P : Tables) (w : World) (t : ℕ) (s : Reach) (n : ℕ) → s.count �
 led_by P w t s zero is fits run = refl
 led_by P w t s (suc n) is fits run =
     let some : 0 < s.count = omega (arith, is) in
-    let at = stands_so P s.done s.count (slice_get w.threads t) s.from (going s.to) fits.0.1 some run in
-    local_run P s.done w fits.1 t (going s.from) at (suc n) (going s.to)
-    (subst (λ k. local_steps P s.done k (going s.from) ≡ Some (going s.to)) is run)
+    let steps = shares_nothing P s run in
+    let at = stands_so P s.done s.count (slice_get w.threads t) s.from (going s.to) fits.0.1 some steps in
+    unshared_run P s.done w fits.1 t (going s.from) at (suc n) (going s.to)
+    (subst (λ k. unshared_steps P s.done k (going s.from) ≡ Some (going s.to)) is steps)
 
 pub led_there : (P : Tables) (w : World) (t : ℕ) (s : Reach) → Fits w t s → IsLocalRun P s
     → Run (program_of P) w (replicate s.count t) (after w t s)

@@ -1,6 +1,7 @@
 pub mod AskedLemmas
 pub mod EndLemmas
 pub mod LocalLemmas
+pub mod UnsharedLemmas
 pub mod WalkLemmas
 pub mod BookLemmas
 pub mod AloneLemmas

@@ -12,7 +12,7 @@ use Rattle.semantics.specs.Steps.{Going, Thread}
 use Rattle.semantics.specs.Worlds.{World}
 use Rattle.init_engine.specs.Stacks.{with_thread}
 use Rattle.init_engine.proofs.SetLemmas.{get_set, set_same}
-use Rattle.thread_runner.proofs.LocalLemmas.{set_twice}
+use Rattle.thread_runner.proofs.UnsharedLemmas.{set_twice}
 
 pub callers_drop : (i : ℕ) (xs : List Frame) → callers_of (drop i xs) ≡ drop (i + 1) xs
 callers_drop zero [] = refl

@@ -9,7 +9,7 @@ use Rattle.machine.specs.Linked.{program_of}
 use Rattle.init_engine.specs.Schedules.{schedule_of}
 use Rattle.init_engine.specs.Stacks.{AreFrames, with_thread}
 use Rattle.init_engine.specs.Turns.{Goes, IsOver, world_of}
-use Rattle.thread_runner.specs.Local.{AreDone}
+use Rattle.thread_runner.specs.Unshared.{AreDone}
 use Rattle.thread_runner.specs.Stretches.{Reach}
 use Rattle.thread_runner.specs.Kept.{Grows, Pages, Past, printed_text, steps_of}
 use Rattle.thread_runner.specs.declared.advance.Commit.{Commit}

@@ -1,4 +1,5 @@
 pub mod Local
+pub mod Unshared
 pub mod Stretches
 pub mod Sendings
 pub mod Kept

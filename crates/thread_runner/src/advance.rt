@@ -7,7 +7,7 @@ ghost use Rattle.init_engine.specs.Schedules.{schedule_of, AreRuns};
 ghost use Rattle.init_engine.specs.Turns.{Goes, IsTurn, Prints, world_of};
 ghost use Rattle.thread_runner.specs.Commits.{there};
 ghost use Rattle.thread_runner.specs.Fronts.{AreInitialized};
-ghost use Rattle.thread_runner.specs.Local.{AreDone};
+ghost use Rattle.thread_runner.specs.Unshared.{AreDone};
 ghost use Rattle.thread_runner.specs.steps.Advances.{answered, counted};
 
 use crate::done_set::DoneSet;

@@ -14,7 +14,7 @@ ghost use Rattle.init_engine.specs.Turns.{world_of};
 ghost use Rattle.thread_runner.specs.Commits.{Fits, Grew, IsCommit, IsCounted, PagesGoOn, Same};
 ghost use Rattle.thread_runner.specs.Fronts.{FitsFront, IsFrontCommit, IsRunCommit, with_top};
 ghost use Rattle.thread_runner.specs.Kept.{IsKept, printed_text, steps_of};
-ghost use Rattle.thread_runner.specs.Local.{AreDone, is_done};
+ghost use Rattle.thread_runner.specs.Unshared.{AreDone, is_done};
 ghost use Rattle.thread_runner.specs.Sendings.{AreOfPrints, SendsOn};
 ghost use Rattle.thread_runner.specs.steps.Alone.{CanRunOn, RunsOn};
 ghost use Rattle.thread_runner.specs.steps.Landings.{MayLand, landed};

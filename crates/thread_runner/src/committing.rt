@@ -8,10 +8,12 @@ use crate::done_set::DoneSet;
 use crate::front::{FrontRun, FrontStretch};
 use crate::monitors::owns_of_locals;
 use crate::pace::sum_of;
+use crate::stretch::Stretch;
 use program::Program;
 use sinks::Sink;
 use std::alloc::{AllocError, Global};
 use vm_state::frame::Frame;
+use vm_state::initialization::Frames;
 
 /// What a thread takes along from under the lock: its innermost frame, if there is one, and the classes that are
 /// initialized, if it asked for them.
@@ -21,7 +23,52 @@ pub(crate) struct Front {
     pub done: Option<DoneSet>,
 }
 
+/// What a thread whose gate is asked takes along: its frames, and the classes that are initialized.
+#[derive(Drop)]
+pub(crate) struct Taken {
+    pub frames: Frames,
+    pub done: DoneSet,
+}
+
 impl<O: Session, S: Sink> Desk<O, S> {
+    /// The frames of a thread, and the classes that are initialized.
+    pub(crate) fn take(
+        &self,
+        alloc: Global,
+        program: &Program,
+        thread: u32,
+    ) -> Result<Taken, AllocError>
+        requires { thread < length O.start.threads }
+    {
+        match self.book.frames(alloc, thread) {
+            Ok(frames) => match self.book.done(alloc, program) {
+                Ok(done) => Ok(Taken { frames, done }),
+                Err(error) => Err(error),
+            },
+            Err(error) => Err(error),
+        }
+    }
+
+    /// A commit of a stretch, and what it printed into the sink.
+    pub(crate) fn commit_stretch(
+        &mut self,
+        alloc: Global,
+        program: &Program,
+        thread: u32,
+        made: Stretch<O>,
+    ) -> Result<Next, AllocError>
+        requires program { program.now ≡ O.program }
+        requires thread { thread < length O.start.threads }
+    {
+        if self.failed {
+            return Ok(Next::End);
+        }
+        match self.book.commit(alloc, program, thread, made) {
+            Ok(answer) => Ok(self.follow(program, answer, false)),
+            Err(error) => Err(error),
+        }
+    }
+
     /// The classes that are initialized, if they are asked for.
     fn done(
         &self,
@@ -78,15 +125,13 @@ impl<O: Session, S: Sink> Desk<O, S> {
         }
     }
 
-    /// A commit, and what it printed into the sink. Where `open` says that nobody asks the gates of threads, the last
-    /// one goes on alone.
+    /// A commit on a front, and what it printed into the sink.
     pub(crate) fn commit(
         &mut self,
         alloc: Global,
         program: &Program,
         thread: u32,
         made: Option<FrontStretch<O>>,
-        open: bool,
     ) -> Result<Next, AllocError>
         requires program { program.now ≡ O.program }
         requires thread { thread < length O.start.threads }
@@ -95,13 +140,13 @@ impl<O: Session, S: Sink> Desk<O, S> {
             return Ok(Next::End);
         }
         match self.book.commit_front(alloc, program, thread, made) {
-            Ok(answer) => Ok(self.follow(program, answer, open)),
+            Ok(answer) => Ok(self.follow(program, answer, true)),
             Err(error) => Err(error),
         }
     }
 
-    /// A commit of a run of local instructions alone: nothing was printed, and no other thread waits for it. Where the
-    /// run is too long for what is left up to the limit, its thread begins anew.
+    /// A commit of a run of unshared instructions alone: nothing was printed, and no other thread waits for it. Where
+    /// the run is too long for what is left up to the limit, its thread begins anew.
     pub(crate) fn commit_run(
         &mut self,
         alloc: Global,
@@ -118,7 +163,8 @@ impl<O: Session, S: Sink> Desk<O, S> {
         }
     }
 
-    /// What a thread does after a commit.
+    /// What a thread does after a commit. Where `open` says that nobody asks the gates of threads, the last one goes on
+    /// alone.
     fn follow(&mut self, program: &Program, answer: Commit, open: bool) -> Next
         requires { self.old.failed ≡ false }
     {

@@ -1,7 +1,7 @@
 //! Classes that are known to be initialized.
 
 ghost use Rattle.std.specs.Prelude.{◌≡◌, ◌<◌, ◌≤◌, ℕ, [], true, length, IfOk};
-ghost use Rattle.thread_runner.specs.Local.{is_done};
+ghost use Rattle.thread_runner.specs.Unshared.{is_done};
 
 use std::alloc::{AllocError, Global};
 use std::marker::Model;
@@ -14,7 +14,7 @@ pub struct DoneSet {
 
 impl Model for DoneSet {
     ghost use Rattle.std.specs.Prelude.{Bool, List, ◌≤◌, length};
-    ghost use Rattle.thread_runner.specs.Local.{flags_in};
+    ghost use Rattle.thread_runner.specs.Unshared.{flags_in};
 
     ghost Value = { List Bool };
 

@@ -8,8 +8,8 @@ ghost use Rattle.thread_runner.specs.Fronts.{IsRunUpTo, LeadsOn};
 
 use crate::done_set::DoneSet;
 use crate::origin::Origin;
-use crate::stretch::run_local;
 use crate::tools::Tools;
+use crate::unshared::run_unshared;
 use program::Program;
 use std::alloc::{AllocError, Global};
 use std::marker::{Model, PhantomData};
@@ -89,7 +89,7 @@ fn alone(alloc: Global, thread: u32, frame: Frame) -> Frames
     }
 }
 
-/// Runs local instructions of a thread that has this frame alone.
+/// Runs unshared instructions of a thread that has this frame alone.
 fn run_front<O: Origin>(
     alloc: Global,
     program: &Program,
@@ -105,7 +105,7 @@ fn run_front<O: Origin>(
     ensures { IfOk result (λ made. IsRunUpTo O.program done.now most front made) }
 {
     let mut frames = start;
-    match run_local(alloc, program, tools, done, &mut frames, most) {
+    match run_unshared(alloc, program, tools, done, &mut frames, most) {
         Ok((count, asked)) => {
             if count == 0 {
                 return Ok(None);
@@ -128,8 +128,8 @@ fn run_front<O: Origin>(
     }
 }
 
-/// Runs at most `most` local instructions of a thread on its innermost frame, over classes that it takes to be
-/// initialized, if the first is one. It ends earlier only where the next one is not local or leaves that frame.
+/// Runs at most `most` unshared instructions of a thread on its innermost frame, over classes that it takes to be
+/// initialized, if the first is one. It ends earlier only where the next one is not unshared or leaves that frame.
 ///
 /// # Errors
 /// `AllocError` where memory is refused.

@@ -9,7 +9,8 @@ pub trait Gate: Sync {
     /// The stretch is made, and not yet committed.
     fn done(&self, who: u32, job: u64);
 
-    /// Whether it is always ready and nothing waits to be told, so that the last thread of a run need not ask.
+    /// Whether it is always ready and nothing waits to be told: then threads may do more at once than a stretch, and
+    /// the last one of a run does not ask.
     fn is_open(&self) -> bool {
         false
     }

@@ -17,9 +17,9 @@ const LONGEST: u64 = 32_768;
 /// What a thread made outside the lock.
 #[derive(Drop)]
 pub(crate) enum Made<O: Origin> {
-    /// A stretch, if its first instruction was local: its commit tries one step more.
+    /// A stretch, if its first instruction was unshared: its commit tries one step more.
     Stretch(Option<FrontStretch<O>>),
-    /// A run of more local instructions than a stretch has, and a copy of the frame where they ended.
+    /// A run of more unshared instructions than a stretch has, and a copy of the frame where they ended.
     Run(FrontRun<O>, Frame),
 }
 
@@ -34,8 +34,8 @@ fn made_of<O: Origin>(alloc: Global, run: FrontRun<O>) -> Result<Made<O>, AllocE
     }
 }
 
-/// Runs local instructions of a thread on its innermost frame, if it has one: as many as one commit counts at the limit
-/// of a run, or more where it may be `long`.
+/// Runs unshared instructions of a thread on its innermost frame, if it has one: as many as one commit counts at the
+/// limit of a run, or more where it may be `long`.
 ///
 /// # Errors
 /// `AllocError` where memory is refused.

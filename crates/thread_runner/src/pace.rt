@@ -21,7 +21,7 @@ const LOCALS: u16 = 16;
 /// they stand.
 #[derive(Drop)]
 pub(crate) struct Pace {
-    /// Its runs of local instructions may be longer than one commit counts at the limit.
+    /// Its runs of unshared instructions may be longer than one commit counts at the limit.
     long: bool,
     /// The last sums of its local variables.
     sums: [u64; 4],
@@ -38,9 +38,9 @@ pub(crate) struct Pace {
 
 impl Pace {
     /// Before the first commit.
-    pub(crate) fn new(long: bool) -> Pace {
+    pub(crate) fn new() -> Pace {
         Pace {
-            long,
+            long: true,
             sums: [0, 0, 0, 0],
             stood: 0,
             limit: 1,

@@ -80,7 +80,7 @@ fn run_session<O: Session + Send + Sync, S: Sink + Send + Drop, G: Gate, R: Thre
     let open = gate.is_open();
     let mut desk = Desk::<O, S>::new(Book::new(alloc, world, limit), sink);
     for _ in rt.forever() {
-        let lock = RunLock::new(desk, open);
+        let lock = RunLock::new(desk);
         let started = run_all(rt, alloc, program, &lock, gate, count);
         let (left, memory) = match lock.into_desk() {
             Ok(left) => left,

@@ -24,9 +24,9 @@ pub(crate) struct RunLock<O: Session, S: Sink> {
 
 impl<O: Session, S: Sink + Drop> RunLock<O, S> {
     /// Before the threads are started.
-    pub(crate) fn new(desk: Desk<O, S>, open: bool) -> RunLock<O, S> {
+    pub(crate) fn new(desk: Desk<O, S>) -> RunLock<O, S> {
         RunLock {
-            state: Mutex::new(RunState::new(desk, open)),
+            state: Mutex::new(RunState::new(desk)),
             moved: Condvar::new(),
             entered: Condvar::new(),
             asking: AtomicU64::new(0),

@@ -3,9 +3,10 @@
 ghost use Rattle.std.specs.Prelude.{◌≡◌, ◌≢◌, ◌<◌, None, IfErr, length};
 ghost use Rattle.thread_runner.specs.Answers.{HavePrintsGoneOut};
 
-use crate::committing::Front;
+use crate::committing::{Front, Taken};
 use crate::desk::{Desk, Next, Session};
 use crate::front::{FrontRun, FrontStretch};
+use crate::stretch::Stretch;
 use crate::tools::Tools;
 use crate::waits::Waits;
 use program::Program;
@@ -58,8 +59,6 @@ pub(crate) struct RunState<O: Session, S: Sink> {
     lost: Option<LostSink<O, S>>,
     /// Who waits for other threads.
     pub(crate) waits: Waits,
-    /// Nobody asks the gates of threads.
-    open: bool,
     over: bool,
     memory: bool,
     ghost there: { desk ≡ None → lost ≢ None },
@@ -67,12 +66,11 @@ pub(crate) struct RunState<O: Session, S: Sink> {
 
 impl<O: Session, S: Sink + Drop> RunState<O, S> {
     /// Before the threads are started.
-    pub(crate) fn new(desk: Desk<O, S>, open: bool) -> RunState<O, S> {
+    pub(crate) fn new(desk: Desk<O, S>) -> RunState<O, S> {
         RunState {
             desk: Some(desk),
             lost: None,
             waits: Waits::none(),
-            open,
             over: false,
             memory: false,
         }
@@ -120,8 +118,47 @@ impl<O: Session, S: Sink + Drop> RunState<O, S> {
         }
     }
 
-    /// A commit of a stretch, if there is one. Where nobody asks the gate the thread then goes on for at most `most`
-    /// steps.
+    /// The frames of a thread, and the classes that are initialized, while the run goes on.
+    pub(crate) fn take(&mut self, alloc: Global, program: &Program, thread: u32) -> Option<Taken>
+        requires { thread < length O.start.threads }
+    {
+        if self.over {
+            return None;
+        }
+        let Some(desk) = &self.desk else {
+            return None;
+        };
+        match desk.take(alloc, program, thread) {
+            Ok(taken) => Some(taken),
+            Err(_) => {
+                self.end_for_memory();
+                None
+            }
+        }
+    }
+
+    /// A commit of a stretch.
+    pub(crate) fn commit_stretch(
+        &mut self,
+        alloc: Global,
+        program: &Program,
+        thread: u32,
+        made: Stretch<O>,
+    ) -> Next
+        requires program { program.now ≡ O.program }
+        requires thread { thread < length O.start.threads }
+    {
+        if self.over {
+            return Next::Leave;
+        }
+        let Some(desk) = &mut self.desk else {
+            return Next::Leave;
+        };
+        let answer = desk.commit_stretch(alloc, program, thread, made);
+        self.follow(answer)
+    }
+
+    /// A commit on a front, if there is one. The thread then goes on for at most `most` steps.
     pub(crate) fn commit(
         &mut self,
         alloc: Global,
@@ -137,19 +174,18 @@ impl<O: Session, S: Sink + Drop> RunState<O, S> {
         if self.over {
             return Next::Leave;
         }
-        let open = self.open;
         let Some(desk) = &mut self.desk else {
             return Next::Leave;
         };
-        let answer = desk.commit(alloc, program, thread, made, open);
+        let answer = desk.commit(alloc, program, thread, made);
         let next = self.follow(answer);
-        if open && matches!(next, Next::Moved) {
+        if matches!(next, Next::Moved) {
             self.go_on(alloc, program, tools, thread, most);
         }
         next
     }
 
-    /// A commit of a run of local instructions alone.
+    /// A commit of a run of unshared instructions alone.
     pub(crate) fn commit_run(&mut self, alloc: Global, thread: u32, run: FrontRun<O>) -> Next
         requires { thread < length O.start.threads }
     {
@@ -220,7 +256,6 @@ impl<O: Session, S: Sink + Drop> RunState<O, S> {
             desk,
             lost,
             waits: _,
-            open: _,
             over: _,
             memory,
         } = self;

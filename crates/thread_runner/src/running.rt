@@ -43,8 +43,8 @@ pub fn stretch<O: Origin>(
     }
 }
 
-/// Runs up to 1,023 local instructions of a thread on its innermost frame, over classes that it takes to be
-/// initialized, if the first is one. It ends earlier only where the next one is not local or leaves that frame.
+/// Runs up to 1,023 unshared instructions of a thread on its innermost frame, over classes that it takes to be
+/// initialized, if the first is one. It ends earlier only where the next one is not unshared or leaves that frame.
 ///
 /// # Errors
 /// `AllocError` where memory is refused.

@@ -10,6 +10,7 @@ use crate::known::KnownClasses;
 use crate::made::{Made, make};
 use crate::pace::Pace;
 use crate::run_lock::RunLock;
+use crate::stretch_worker::work_by_stretches;
 use crate::tools::Tools;
 use program::Program;
 use sinks::Sink;
@@ -17,8 +18,27 @@ use std::alloc::Global;
 use std::sync::Wait;
 use vm_state::frame::Frame;
 
-/// Runs one thread to its end, or to that of the run.
+/// Runs one thread to its end, or to that of the run: stretch by stretch, or further at once where its gate is open.
 pub(crate) fn work<O: Session, S: Sink + Drop, G: Gate, R: Wait>(
+    rt: &R,
+    alloc: Global,
+    program: &Program,
+    lock: &RunLock<O, S>,
+    gate: &G,
+    thread: u32,
+)
+    requires program { program.now ≡ O.program }
+    requires thread { thread < length O.start.threads }
+{
+    if gate.is_open() {
+        work_far(rt, alloc, program, lock, gate, thread)
+    } else {
+        work_by_stretches(rt, alloc, program, lock, gate, thread)
+    }
+}
+
+/// Runs one thread whose gate is open.
+fn work_far<O: Session, S: Sink + Drop, G: Gate, R: Wait>(
     rt: &R,
     alloc: Global,
     program: &Program,
@@ -32,7 +52,7 @@ pub(crate) fn work<O: Session, S: Sink + Drop, G: Gate, R: Wait>(
     let mut job = 0u64;
     let mut tools = Tools::<O>::new(alloc);
     let mut known = KnownClasses::none();
-    let mut pace = Pace::new(gate.is_open());
+    let mut pace = Pace::new();
     let locked = LockedState { lock, thread };
     let mut front = lock.enter(rt).look(alloc, program, thread, known.is_old());
     for _ in rt.forever() {

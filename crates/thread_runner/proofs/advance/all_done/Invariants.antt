@@ -1,7 +1,7 @@
 use Rattle.std.proofs.Common.{◌≡◌, ◌<◌, ℕ, true}
 use Rattle.vm_state.specs.declared.classes.ClassState.TheVariants.{Initialized}
 use Rattle.init_engine.specs.Turns.{world_of}
-use Rattle.thread_runner.specs.Local.{is_done}
+use Rattle.thread_runner.specs.Unshared.{is_done}
 use Rattle.thread_runner.proofs.advance.all_done.Given as goal
 
 abbrev pub invariant-loop-class : goal.invariant-loop-class

@@ -1,18 +1,14 @@
-use Rattle.std.proofs.Common.{◌≡◌, ◌+◌, ◌-◌, ◌≤◌, List, Bool, Some}
+use Rattle.std.proofs.Common.{◌≡◌, ◌-◌, ◌≤◌, Some}
 use Rattle.machine.specs.Effects.{going}
-use Rattle.thread_runner.specs.Fronts.{AreMembers}
 use Rattle.thread_runner.specs.Local.{local_steps}
-use Rattle.thread_runner.proofs.AskedLemmas.{unasked}
 use Rattle.thread_runner.proofs.stretch.run_local.Given as goal
 
 abbrev pub invariant-loop-count : goal.invariant-loop-count
 invariant-loop-count g l = record {
-  members : AreMembers l.asked.items l.done;
-  wide : (more : List Bool) → AreMembers l.asked.items more
-      → local_steps l.program more l.count (going l.fn.frames) ≡ Some (going l.frames);
+  steps : local_steps l.program l.done l.count (going l.fn.frames) ≡ Some (going l.frames);
   thread : l.frames.thread ≡ l.fn.frames.thread;
-  most : l.count ≤ l.most;
+  most : l.count ≤ 1023;
 }
 
 abbrev pub decreases-loop-count : goal.decreases-loop-count
-decreases-loop-count g l = l.most - l.count + unasked l.done 0 l.asked.items
+decreases-loop-count g l = 1023 - l.count

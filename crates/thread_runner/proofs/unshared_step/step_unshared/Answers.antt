@@ -10,11 +10,11 @@ use Rattle.semantics.specs.Steps.{Going}
 use Rattle.machine.specs.Effects.{going}
 use Rattle.machine.specs.Table.{row}
 use Rattle.thread_runner.specs.Fronts.{AreMembers}
-use Rattle.thread_runner.specs.Local.{frame_end, local_step}
+use Rattle.thread_runner.specs.Unshared.{frame_end, unshared_step}
 use Rattle.thread_runner.specs.steps.Asked.{over_asked}
-use Rattle.thread_runner.specs.steps.Ends.{IsLocalStep, IsTold}
+use Rattle.thread_runner.specs.steps.Ends.{IsUnsharedStep, IsTold}
 use Rattle.thread_runner.proofs.EndLemmas.{stopped_step, told}
-use Rattle.thread_runner.proofs.local_step.step_local.Goals as goal
+use Rattle.thread_runner.proofs.unshared_step.step_unshared.Goals as goal
 
 pub returns-in-Ok-clause-step : goal.returns-in-Ok-clause-step
 returns-in-Ok-clause-step c =
@@ -26,7 +26,7 @@ returns-in-Ok-clause-step c =
     let f = s.innermost in
     let is : c.args.frames.now.segment ≡ Some s = search rules in
     subst (λ (x : Option Segment). IfOk c.go_on.result (λ step. (done : List Bool) → AreMembers asked done
-    → IsLocalStep asked done step (local_step P done (Going (frames_in x) ls)) (Going (frames_in x) ls) new))
+    → IsUnsharedStep asked done step (unshared_step P done (Going (frames_in x) ls)) (Going (frames_in x) ls) new))
     (sym is)
     (IfOk-weaker c.go_on.result _ _
     (λ step went done members. went f asked c.execute.new.store.classes.now done (frame_end P done f)
@@ -44,7 +44,7 @@ returns-in-Err-clause-step c =
     let new = going c.stand.new.frames in
     let is : c.args.frames.now.segment ≡ Some s = search rules in
     subst (λ (x : Option Segment). IfOk c.stopped.result (λ step. (done : List Bool) → AreMembers asked done
-    → IsLocalStep asked done step (local_step P done (Going (frames_in x) ls)) (Going (frames_in x) ls) new))
+    → IsUnsharedStep asked done step (unshared_step P done (Going (frames_in x) ls)) (Going (frames_in x) ls) new))
     (sym is)
     (IfOk-weaker c.stopped.result _ _
     (λ step stops done members. stopped_step asked done (frame_end P done f) f s.callers ls step
