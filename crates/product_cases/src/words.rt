@@ -7,10 +7,10 @@ use std::alloc::{AllocError, Global};
 
 /// Asked is `line WORDS`, what the words of a command ask for, or `entries LIST`, the names of a list.
 pub fn ask(answer: &mut Answer, asked: &str) {
-    match asked.split_once(' ') {
-        Some(("line", words)) => add_request(answer, words),
-        Some((_, list)) => add_names(answer, list),
-        None => answer.word("no question"),
+    match asked.split_once(' ').unwrap_or((asked, "")) {
+        ("line", words) => add_request(answer, words),
+        ("entries", list) => add_names(answer, list),
+        _ => answer.word("no question"),
     }
 }
 
