@@ -29,3 +29,4 @@ mod NotRunLemmas
 mod OutputLemmas
 mod CountLemmas
 mod ListLemmas
+mod ImageReplayLemmas

@@ -1,4 +1,4 @@
--- Runs whose text went out, with their journals, and replays.
+-- Runs whose text went out, with their journals.
 use Rattle.std.specs.Prelude.{◌≡◌, ℕ, List, Option, Result, Ok, Err}
 use Rattle.std.specs.Io.KnownBytes.{Appends}
 use Rattle.vm_state.specs.Output.{text_of}
@@ -8,18 +8,11 @@ use Rattle.machine.specs.Linked.{program_of}
 use Rattle.init_engine.specs.Rests.{IsRest}
 use Rattle.init_engine.specs.Schedules.{schedule_of}
 use Rattle.init_engine.specs.declared.stuck.Rest.{Rest}
-use Rattle.journal.specs.Journals.{IsJournalOf}
-use Rattle.thread_runner.specs.Replays.{IsReplay}
-use Rattle.cli.specs.declared.by_threads.ImageSeen.{ImageSeen}
 use Rattle.cli.specs.declared.by_threads.Journaled.{Journaled}
 use Rattle.cli.specs.declared.fault.CommandFault.{CommandFault}
-use Rattle.cli.specs.declared.status.Status.{Status}
-use Rattle.command_line.specs.declared.request.Replay.{Replay}
-use Rattle.cli.specs.Begins.{IsBegunFromFile}
-use Rattle.cli.specs.Files.{AreBytesOf, Contents}
 use Rattle.cli.specs.CommandFault.{refusal_status}
 use Rattle.cli.specs.Running.{IsCutShort, cut_of}
-use Rattle.cli.specs.Status.{replay_status, run_status}
+use Rattle.cli.specs.Status.{run_status}
 
 -- The journal's run leads from a world to the one that is told, whose text has gone out whole.
 pub record IsJournaled (P : Tables) (first : World) (before after : Option (List ℕ)) (ran : Journaled) : Type 0 where
@@ -36,19 +29,3 @@ pub record IsJournaled (P : Tables) (first : World) (before after : Option (List
 abbrev pub IsOutcome : Tables → World → Option (List ℕ) → Option (List ℕ) → Result Journaled CommandFault → Type 0
 IsOutcome P first before after (Ok ran) = IsJournaled P first before after ran
 IsOutcome P first before after (Err refusal) = IsCutShort P first before after (cut_of (refusal_status refusal))
-
--- A journal, run from a start of an image, leads to a world in which this is seen.
-pub record IsReplayed (first : World) (runs : List (ℕ × ℕ)) (replayed : ImageSeen) (status : Status) : Type 0 where
-  pub shown : IsReplay (program_of replayed.program) first runs replayed.seen
-  pub status_is : status ≡ replay_status replayed.seen.threads.items
-
--- The journal that a file holds, run from the entries of the words, of the image that another file holds, leads to a
--- world in which this is seen.
-pub record IsReplayOf (holds : Contents) (words : Replay) (replayed : ImageSeen) (status : Status) : Type 0 where
-  pub first : World
-  pub begun : IsBegunFromFile holds words.image.now words.entries.now replayed.program first
-  pub bytes : List ℕ
-  pub held : AreBytesOf (holds words.journal.now) bytes
-  pub runs : List (ℕ × ℕ)
-  pub journal : IsJournalOf bytes runs
-  pub leads : IsReplayed first runs replayed status

@@ -1,17 +1,18 @@
 //! Why a command was refused.
 ghost use Rattle.std.specs.Prelude.{◌≡◌, ◌≢◌};
 ghost use Rattle.cli.specs.CommandFault.{IsOfFile, refusal_status};
+ghost use Rattle.cli.specs.steps.Refusals.{journal_refusal, replay_refusal};
 ghost use Rattle.cli.specs.declared.fault.CommandFault.TheVariants.{Memory};
 
 use crate::{FileCause, FileFault, Status};
 use classfile::ClassFault;
 use image_parser::ImageFault;
+use image_runner::ReplayFault;
 use init_engine::EntryFault;
 use journal::JournalFault;
 use program::LinkFault;
 use std::alloc::{AllocError, Global};
 use thiserror::Error;
-use thread_runner::replay::ReplayFault;
 use wave_scheduler::outcome::WaveFault;
 
 /// Why a command was refused. Its text follows `preinit: ` on standard error.
@@ -143,7 +144,7 @@ impl CommandFault {
 
     /// The refusal of the text of a journal. To be out of memory is no fault of its.
     pub(crate) fn of_journal(fault: JournalFault) -> CommandFault
-        ensures { result ≢ CommandFault.Device }
+        ensures { result ≡ journal_refusal fault }
     {
         match fault {
             JournalFault::Memory => CommandFault::Memory,
@@ -151,12 +152,13 @@ impl CommandFault {
         }
     }
 
-    /// The refusal of a replay. To be out of memory is no fault of its journal.
+    /// The refusal of a replay. To be out of memory is no fault of its.
     pub(crate) fn of_replay(fault: ReplayFault) -> CommandFault
-        ensures { result ≢ CommandFault.Device }
+        ensures { result ≡ replay_refusal fault }
     {
         match fault {
             ReplayFault::Memory => CommandFault::Memory,
+            ReplayFault::Entry(fault) => CommandFault::Entry(fault),
             ReplayFault::Turn(line) => CommandFault::Turn(line),
         }
     }

@@ -156,25 +156,6 @@ fn start_by_several<R: Threads + Sync>(
     }
 }
 
-/// The start from an image of these bytes, from the entries of a list. The bytes are let go before the world is made.
-pub(crate) fn start_of(
-    alloc: Global,
-    list: &str,
-    bytes: Vec<u8>,
-    stacks: bool,
-) -> Result<ImageStart, CommandFault>
-    ensures { IfOk result (λ start. IsBegunFromBytes bytes.items list.now start.program (world_of start.world)) }
-{
-    let entries = entries_of(alloc, list)?;
-    match read(alloc, bytes.as_slice()) {
-        Ok(image) => {
-            drop(bytes);
-            started(alloc, image, entries.as_slice(), stacks)
-        }
-        Err(fault) => Err(CommandFault::of_image(fault)),
-    }
-}
-
 /// The start from an image.
 fn started(
     alloc: Global,

@@ -13,8 +13,9 @@ ghost use Rattle.cli.specs.Running.{IsCutShort, IsOfRun};
 ghost use Rattle.cli.specs.steps.Lists.{AreGivenAs};
 ghost use Rattle.cli.specs.Status.{IsOver, code_of, run_status};
 
-use crate::by_threads::{Journaled, replayed, run_by_threads};
+use crate::by_threads::{Journaled, run_by_threads};
 use crate::files::put;
+use crate::image_replay::replayed;
 use crate::image_run::ImageStart;
 use crate::lazy::LazyStart;
 use crate::lists::{Given, names, words_given};
@@ -33,6 +34,7 @@ use crate::{
 };
 use init_engine::World;
 use journal::Journal;
+use object_graph::Image;
 use program::Program;
 use std::alloc::Global;
 use std::io::Write;
@@ -85,6 +87,7 @@ pub fn command<R: Threads + Wait + Sync, F: Files, W: Write + Send + Drop, E: Wr
 pub enum Held {
     Nothing,
     Program(Program),
+    Image(Image),
 }
 
 /// How a command ended.
@@ -568,9 +571,9 @@ fn replay_image<F: Files, W: Write, E: Errors>(
         (W.contents out.new) (Request.Replay words.now) result.0 }
 {
     match replayed(alloc, words, files) {
-        Ok((seen, status)) => {
-            let (status, program) = tell_replay(alloc, seen, status, out, errors);
-            (status, Held::Program(program))
+        Ok(replay) => {
+            let status = tell_replay(alloc, words, &replay, out, errors);
+            (status, Held::Image(replay.image))
         }
         Err(refusal) => (refuse(&refusal, errors), Held::Nothing),
     }

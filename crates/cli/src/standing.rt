@@ -6,10 +6,13 @@ ghost use Rattle.cli.specs.Status.{IsOver};
 use crate::meanings::Errors;
 use crate::telling::refuse;
 use crate::{CommandFault, Status, entries_of};
+use image_reader::world;
 use init_engine::World;
+use object_graph::Image;
 use program::Program;
 use stacks::{stack_lines, stacks};
 use std::alloc::Global;
+use thread_runner::replay::ReplayFault;
 
 /// Whether a run that ends a command so has threads that have not returned.
 fn some_stand(status: Status) -> bool {
@@ -60,6 +63,27 @@ pub(crate) fn tell_image_stacks<E: Errors>(
     }
 }
 
+/// Tells where the threads of a replay of an image stand, by its journal, from the entries of a list.
+pub(crate) fn tell_replay_stacks<E: Errors>(
+    alloc: Global,
+    image: &Image,
+    list: &str,
+    runs: &[(u32, u64)],
+    status: Status,
+    errors: &mut E,
+) -> Status
+    requires runs { AreRuns runs.now }
+    requires status { status ≢ Status.Words }
+    ensures words { result ≢ Status.Words }
+    ensures done { IsOver result → result ≡ status }
+{
+    if some_stand(status) {
+        tell_stacks(replay_stacks(alloc, image, list, runs), status, errors)
+    } else {
+        status
+    }
+}
+
 /// Tells stacks after a run with this status.
 fn tell_stacks<E: Errors>(
     stacks: Result<String, CommandFault>,
@@ -95,6 +119,22 @@ fn lazy_stacks(
     }
 }
 
+/// The stacks after a schedule from the start of an image, from the entries of a list.
+fn replay_stacks(
+    alloc: Global,
+    image: &Image,
+    list: &str,
+    runs: &[(u32, u64)],
+) -> Result<String, CommandFault>
+    requires { AreRuns runs.now }
+{
+    let entries = entries_of(alloc, list)?;
+    match world(alloc, image, entries.as_slice()) {
+        Ok(first) => stacks_from(alloc, image.program(), first, runs),
+        Err(fault) => Err(CommandFault::of_entry(fault)),
+    }
+}
+
 /// The stacks after a schedule from a world.
 fn stacks_from(
     alloc: Global,
@@ -106,6 +146,7 @@ fn stacks_from(
 {
     match stacks(alloc, program, first, runs) {
         Ok(stacks) => Ok(stack_lines(alloc, program, &stacks)?),
-        Err(fault) => Err(CommandFault::of_replay(fault)),
+        Err(ReplayFault::Memory) => Err(CommandFault::Memory),
+        Err(ReplayFault::Turn(line)) => Err(CommandFault::Turn(line)),
     }
 }

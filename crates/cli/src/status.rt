@@ -1,7 +1,7 @@
 //! Exit statuses.
 ghost use Rattle.std.specs.Prelude.{◌≡◌, ◌≤◌};
-ghost use Rattle.cli.specs.Status.{IsTold, code_of, is_return, run_status};
-ghost use Rattle.std.specs.List.{list_all};
+ghost use Rattle.std.specs.List.{list_all, list_any};
+ghost use Rattle.cli.specs.Status.{IsTold, code_of, is_going, is_return, replay_status, run_status};
 
 use init_engine::{Ending, Rest};
 
@@ -63,6 +63,24 @@ pub fn status_of(threads: &[Ending], rest: Rest) -> Status
         Rest::Stuck => Status::Stuck,
         Rest::Going => Status::Limit,
     }
+}
+
+/// The status of a replay: that of a run whose threads ended so, and that of a limit where one goes on.
+pub(crate) fn status_of_replay(threads: &[Ending]) -> Status
+    ensures status { result ≡ replay_status threads.now }
+    ensures told { IsTold result }
+{
+    if one_goes_on(threads) {
+        Status::Limit
+    } else {
+        status_of(threads, Rest::Ended)
+    }
+}
+
+fn one_goes_on(threads: &[Ending]) -> bool
+    ensures { result ≡ list_any is_going threads.now }
+{
+    threads.iter().any(|ending| matches!(ending, Ending::Going))
 }
 
 fn all_returned(threads: &[Ending]) -> bool

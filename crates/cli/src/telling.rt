@@ -4,63 +4,72 @@ ghost use Rattle.std.specs.Io.KnownBytes.{Appends};
 ghost use Rattle.vm_state.specs.Output.{text_of};
 ghost use Rattle.cli.specs.Done.{HasHelped};
 ghost use Rattle.cli.specs.CommandFault.{refusal_status};
-ghost use Rattle.cli.specs.Status.{IsOver, audit_status};
+ghost use Rattle.cli.specs.Status.{IsOver, audit_status, replay_status};
 
 use crate::auditing::Audited;
-use crate::by_threads::ImageSeen;
 use crate::meanings::Errors;
 use crate::outputs::Clash;
 use crate::running::send_seen;
-use crate::standing::tell_image_stacks;
-use crate::{CommandFault, CutShort, Request, Stage, Status, Watch, WordsFault, thread_lines};
+use crate::standing::tell_replay_stacks;
+use crate::status::status_of_replay;
+use crate::{
+    CommandFault, CutShort, ImageReplay, Replay, Request, Stage, Status, Watch, WordsFault,
+    thread_lines,
+};
 use init_engine::Ending;
 use program::Program;
 use std::alloc::Global;
 use std::io::Write;
 
-/// Tells what a replay has shown. Answers its program back.
+/// Tells what a replay has shown.
 pub(crate) fn tell_replay<W: Write, E: Errors>(
     alloc: Global,
-    replayed: ImageSeen,
-    status: Status,
+    words: &Replay<'_>,
+    replay: &ImageReplay,
     out: &mut W,
     errors: &mut E,
-) -> (Status, Program)
-    requires { status ≢ Status.Words }
+) -> Status
     // Nothing has gone out, or all that was printed.
-    ensures refused { result.0 ≡ Status.Refused → (W.contents out.new ≡ W.contents out.old)
-        ⊎ Appends (W.contents out.old) (W.contents out.new) (text_of replayed.seen.printed) }
-    ensures words { result.0 ≢ Status.Words }
-    ensures done { IsOver result.0 → (result.0 ≡ status)
-        × Appends (W.contents out.old) (W.contents out.new) (text_of replayed.seen.printed) }
+    ensures refused { result ≡ Status.Refused → (W.contents out.new ≡ W.contents out.old)
+        ⊎ Appends (W.contents out.old) (W.contents out.new) (text_of replay.now.seen.printed) }
+    ensures words { result ≢ Status.Words }
+    ensures done { IsOver result → (result ≡ replay_status replay.now.seen.threads.items)
+        × Appends (W.contents out.old) (W.contents out.new) (text_of replay.now.seen.printed) }
 {
-    match send_seen(&replayed.seen, out) {
-        Ok(()) => tell_replay_threads(alloc, replayed, status, errors),
-        Err(CutShort::Memory) => (refuse(&CommandFault::Memory, errors), replayed.program),
-        Err(CutShort::Device) => (refuse(&CommandFault::Device, errors), replayed.program),
+    match send_seen(&replay.seen, out) {
+        Ok(()) => tell_replay_threads(alloc, words, replay, errors),
+        Err(CutShort::Memory) => refuse(&CommandFault::Memory, errors),
+        Err(CutShort::Device) => refuse(&CommandFault::Device, errors),
     }
 }
 
-/// Tells how the threads of a replay ended, and where they stand, if there is a world for that.
+/// Tells how the threads of a replay ended, and where they stand, if the words ask for it.
 fn tell_replay_threads<E: Errors>(
     alloc: Global,
-    replayed: ImageSeen,
-    status: Status,
+    words: &Replay<'_>,
+    replay: &ImageReplay,
     errors: &mut E,
-) -> (Status, Program)
-    requires { status ≢ Status.Words }
-    ensures words { result.0 ≢ Status.Words }
-    ensures done { IsOver result.0 → result.0 ≡ status }
+) -> Status
+    ensures words { result ≢ Status.Words }
+    ensures done { IsOver result → result ≡ replay_status replay.now.seen.threads.items }
 {
-    let ImageSeen {
-        program,
-        again,
+    let ImageReplay {
+        image,
         journal,
         seen,
-    } = replayed;
-    let status = tell_endings(alloc, &program, seen.threads.as_slice(), status, errors);
-    let status = tell_image_stacks(alloc, &program, again, journal.runs(), status, errors);
-    (status, program)
+    } = replay;
+    let threads = seen.threads.as_slice();
+    let status = tell_endings(
+        alloc,
+        image.program(),
+        threads,
+        status_of_replay(threads),
+        errors,
+    );
+    if !words.stacks {
+        return status;
+    }
+    tell_replay_stacks(alloc, image, words.entries, journal.runs(), status, errors)
 }
 
 /// Tells how threads ended.

@@ -8,8 +8,12 @@ use Rattle.loading.specs.declared.fault.LinkFault.{LinkFault}
 use Rattle.program.specs.Tables.{Tables}
 use Rattle.init_engine.specs.Starts.{EntriesFail}
 use Rattle.init_engine.specs.declared.fault.EntryFault.{EntryFault}
+use Rattle.journal.specs.declared.fault.JournalFault.{JournalFault}
+use Rattle.journal.specs.declared.fault.JournalFault.TheVariants as journals
+use Rattle.image_runner.specs.declared.fault.ReplayFault.{ReplayFault}
+use Rattle.image_runner.specs.declared.fault.ReplayFault.TheVariants as replays
 use Rattle.cli.specs.declared.fault.CommandFault.{CommandFault}
-use Rattle.cli.specs.declared.fault.CommandFault.TheVariants.{Class, Link, Entry, Memory}
+use Rattle.cli.specs.declared.fault.CommandFault.TheVariants.{Class, Link, Entry, Memory, Text, Turn}
 use Rattle.cli.specs.Runs.{IsFirstBad, IsProgramOf, NotLinked}
 
 -- the text of a place is no class file
@@ -32,3 +36,14 @@ pub record MakesProgram (texts : List (List ℕ)) (r : Result Tables CommandFaul
 -- entries can't be run in a program
 pub data IsRefusedEntry (P : Tables) (names : List (List ℕ)) : CommandFault → Type 0 where
   refused : {fault : EntryFault} → EntriesFail P names fault → IsRefusedEntry P names (Entry fault)
+
+-- the refusal of a text that is no journal
+abbrev pub journal_refusal : JournalFault → CommandFault
+journal_refusal journals.Memory = Memory
+journal_refusal (journals.Text line) = Text line
+
+-- the refusal of a replay
+abbrev pub replay_refusal : ReplayFault → CommandFault
+replay_refusal replays.Memory = Memory
+replay_refusal (replays.Entry fault) = Entry fault
+replay_refusal (replays.Turn line) = Turn line
