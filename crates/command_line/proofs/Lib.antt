@@ -1,1 +1,4 @@
+pub mod AskedLemmas
+pub mod DescribedLemmas
+pub mod LineLemmas
 pub mod MatchesLemmas

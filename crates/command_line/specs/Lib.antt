@@ -1,2 +1,4 @@
-pub mod Requests
+pub mod CommandLine
 pub mod Files
+pub mod Requests
+pub mod steps

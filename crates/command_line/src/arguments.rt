@@ -1,4 +1,8 @@
 //! The kinds of arguments that commands have.
+ghost use Rattle.std.specs.Prelude.{◌≡◌, false};
+ghost use Rattle.clap.specs.Walk.{rule_of};
+ghost use Rattle.command_line.specs.CommandLine.{files, flag, number, text, word};
+ghost use Rattle.command_line.specs.steps.Described.{rule_for};
 
 use clap::builder::ValueParser;
 use clap::{Arg, ArgAction};
@@ -40,7 +44,10 @@ pub(crate) enum Argument {
 
 impl Argument {
     /// The argument as `clap` has it.
-    pub(crate) fn arg<'a>(&self, alloc: Global) -> Arg<'a> {
+    pub(crate) fn arg<'a>(&self, alloc: Global) -> Arg<'a>
+        ensures rule { rule_of result ≡ rule_for self.now }
+        ensures local { result.global ≡ false }
+    {
         match self {
             Argument::Flag { name, help } => flag(alloc, name, help),
             Argument::Text {
@@ -62,7 +69,10 @@ impl Argument {
     }
 }
 
-fn flag<'a>(alloc: Global, name: &'a str, help: &'a str) -> Arg<'a> {
+fn flag<'a>(alloc: Global, name: &'a str, help: &'a str) -> Arg<'a>
+    ensures rule { rule_of result ≡ flag name.now }
+    ensures local { result.global ≡ false }
+{
     Arg::new(alloc, name)
         .long(name)
         .action(ArgAction::SetTrue)
@@ -76,7 +86,10 @@ fn text<'a>(
     value: &'a str,
     is_required: bool,
     help: &'a str,
-) -> Arg<'a> {
+) -> Arg<'a>
+    ensures rule { rule_of result ≡ text id.now name.now is_required }
+    ensures local { result.global ≡ false }
+{
     Arg::new(alloc, id)
         .long(name)
         .value_name(value)
@@ -90,7 +103,10 @@ fn number<'a>(
     default: &'a str,
     numbers: ValueParser<'a>,
     help: &'a str,
-) -> Arg<'a> {
+) -> Arg<'a>
+    ensures rule { rule_of result ≡ number name.now default.now numbers.entry }
+    ensures local { result.global ≡ false }
+{
     Arg::new(alloc, name)
         .long(name)
         .value_name("N")
@@ -99,14 +115,20 @@ fn number<'a>(
         .help(help)
 }
 
-fn word<'a>(alloc: Global, id: &'a str, value: &'a str, help: &'a str) -> Arg<'a> {
+fn word<'a>(alloc: Global, id: &'a str, value: &'a str, help: &'a str) -> Arg<'a>
+    ensures rule { rule_of result ≡ word id.now }
+    ensures local { result.global ≡ false }
+{
     Arg::new(alloc, id)
         .value_name(value)
         .required(true)
         .help(help)
 }
 
-fn files<'a>(alloc: Global, help: &'a str) -> Arg<'a> {
+fn files<'a>(alloc: Global, help: &'a str) -> Arg<'a>
+    ensures rule { rule_of result ≡ files }
+    ensures local { result.global ≡ false }
+{
     Arg::new(alloc, "file")
         .value_name("FILE")
         .num_args(0..)

@@ -1,4 +1,8 @@
 //! The commands of the program and their arguments.
+ghost use Rattle.std.specs.Prelude.{◌≡◌, IfOk, fold};
+ghost use Rattle.clap.specs.Simple.{app_of, new_app};
+ghost use Rattle.command_line.specs.CommandLine.{preinit};
+ghost use Rattle.command_line.specs.steps.Described.{HasApp, IsLocal, program_alone, with_argument, with_description};
 
 use crate::arguments::Argument;
 use crate::texts::{
@@ -109,7 +113,7 @@ const REPORT: Argument = Argument::Text {
 const WORKERS: Argument = Argument::Number {
     name: "workers",
     default: "1",
-    numbers: ValueParser::Signed(0, 4_294_967_295),
+    numbers: ValueParser::Unsigned(0, 4_294_967_295),
     help: "How many threads run initializers, from 1 to 64",
 };
 
@@ -214,12 +218,16 @@ const BUDGET: Argument = Argument::Number {
 };
 
 /// The program with its commands.
-pub(crate) fn program<'a>(alloc: Global) -> Result<Command<'a>, AllocError> {
-    with_commands(alloc, described_program(alloc))?.bin_name("preinit")
+pub(crate) fn program<'a>(alloc: Global) -> Result<Command<'a>, AllocError>
+    ensures { IfOk result (λ program. app_of program ≡ preinit) }
+{
+    with_commands(alloc, described_program(alloc), &COMMANDS)?.bin_name("preinit")
 }
 
 /// The program without its commands.
-fn described_program<'a>(alloc: Global) -> Command<'a> {
+fn described_program<'a>(alloc: Global) -> Command<'a>
+    ensures { HasApp program_alone result }
+{
     Command::new(alloc, "preinit")
         .no_binary_name(true)
         .version(VERSION)
@@ -229,9 +237,15 @@ fn described_program<'a>(alloc: Global) -> Command<'a> {
         .arg_required_else_help(true)
 }
 
-fn with_commands<'a>(alloc: Global, program: Command<'a>) -> Result<Command<'a>, AllocError> {
+fn with_commands<'a>(
+    alloc: Global,
+    program: Command<'a>,
+    descriptions: &[Description],
+) -> Result<Command<'a>, AllocError>
+    ensures { IfOk result (λ all. app_of all ≡ fold with_description (app_of program.entry) descriptions.now) }
+{
     let mut program = program;
-    for description in &COMMANDS {
+    for description in descriptions {
         program = with_command(alloc, program, description)?;
     }
     Ok(program)
@@ -241,7 +255,9 @@ fn with_command<'a>(
     alloc: Global,
     program: Command<'a>,
     description: &Description,
-) -> Result<Command<'a>, AllocError> {
+) -> Result<Command<'a>, AllocError>
+    ensures { IfOk result (λ more. app_of more ≡ with_description (app_of program.entry) description.now) }
+{
     let command = described(alloc, description);
     match with_arguments(alloc, command, description.arguments) {
         Ok(command) => program.subcommand(command),
@@ -250,7 +266,9 @@ fn with_command<'a>(
 }
 
 /// A command without its arguments.
-fn described<'a>(alloc: Global, description: &Description) -> Command<'a> {
+fn described<'a>(alloc: Global, description: &Description) -> Command<'a>
+    ensures { HasApp (new_app description.now.name.now) result }
+{
     Command::new(alloc, description.name)
         .about(description.about)
         .long_about(description.long_about)
@@ -261,7 +279,10 @@ fn with_arguments<'a>(
     alloc: Global,
     command: Command<'a>,
     arguments: &[Argument],
-) -> Result<Command<'a>, AllocError> {
+) -> Result<Command<'a>, AllocError>
+    requires { IsLocal command }
+    ensures { IfOk result (HasApp (fold with_argument (app_of command.entry) arguments.now)) }
+{
     let mut command = command;
     for argument in arguments {
         command = command.arg(argument.arg(alloc))?;

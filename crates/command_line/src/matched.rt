@@ -1,8 +1,13 @@
 //! What words ask for, by the matches of `clap`.
-ghost use Rattle.std.specs.Prelude.{◌≡◌, IfOk, IfSome, codes};
+ghost use Rattle.std.specs.Prelude.{◌≡◌, ◌≢◌, IfOk, MatchResult, codes};
 ghost use Rattle.clap.specs.Matches.{found_of};
-ghost use Rattle.command_line.specs.Requests.{AsksFor, Holds, HoldsBits, HoldsBuilding, HoldsFlag, HoldsNumber, IsLine};
-ghost use Rattle.command_line.specs.Requests.{texts, values_of};
+ghost use Rattle.clap.specs.Simple.{app_of};
+ghost use Rattle.clap.specs.Walk.{first_of, rows_of};
+ghost use Rattle.command_line.specs.CommandLine.{preinit};
+ghost use Rattle.command_line.specs.Requests.{Holds, HoldsAudit, HoldsBits, HoldsBuild, HoldsBuilding, HoldsExplain};
+ghost use Rattle.command_line.specs.Requests.{HoldsFlag, HoldsLazy, HoldsNumber, HoldsRenew, HoldsReplay, HoldsRun};
+ghost use Rattle.command_line.specs.Requests.{IsFaultOf, IsLine, text_in, texts, values_of};
+ghost use Rattle.command_line.specs.steps.Faults.{AskedByMatches, IsWhatHolds, SaysKind};
 
 use crate::commands::program;
 use crate::parsed::fault_of;
@@ -14,10 +19,10 @@ use std::alloc::{AllocError, Global};
 /// Reads the words after the program's name.
 ///
 /// # Errors
-/// `Help` where help was asked for, `Wrong` where the words are no command, and `Memory`.
+/// `Help` where help or the version was asked for, `Wrong` where the words ask for nothing, and `Memory`.
 pub fn line<'a>(alloc: Global, words: &'a [&'a str]) -> Result<Request<'a>, WordsFault>
-    // What is asked for is the command, with the values, that the matches of a parse of these words hold.
-    ensures { IfOk result (IsLine (texts words.now)) }
+    // What is asked for is the command of the words, with the values that stand there; and a fault is one of them.
+    ensures { MatchResult result (IsLine (texts words.now)) (IsFaultOf (texts words.now)) }
 {
     match program(alloc) {
         Ok(mut program) => request_in(alloc, &mut program, words),
@@ -30,7 +35,8 @@ fn request_in<'a>(
     program: &mut Command<'a>,
     words: &'a [&'a str],
 ) -> Result<Request<'a>, WordsFault>
-    ensures { IfOk result (IsLine (texts words.now)) }
+    requires { app_of program.old ≡ preinit }
+    ensures { MatchResult result (IsLine (texts words.now)) (IsFaultOf (texts words.now)) }
 {
     match program.try_get_matches_from_mut(words) {
         Ok(matches) => match command_of(alloc, &matches) {
@@ -47,7 +53,7 @@ fn command_of<'a>(
     alloc: Global,
     matches: &ArgMatches<'a>,
 ) -> Result<Option<Request<'a>>, AllocError>
-    ensures { IfOk result (λ found. IfSome found (AsksFor matches.now)) }
+    ensures { IfOk result (IsWhatHolds (AskedByMatches matches.now)) }
 {
     match matches.subcommand() {
         Some((name, arguments)) => asked_of(alloc, name, arguments),
@@ -61,35 +67,38 @@ fn asked_of<'a>(
     name: &str,
     arguments: &ArgMatches<'a>,
 ) -> Result<Option<Request<'a>>, AllocError>
-    ensures { IfOk result (λ found. IfSome found (Holds name.now (found_of arguments.now))) }
+    ensures { IfOk result (IsWhatHolds (Holds name.now (rows_of (found_of arguments.now)))) }
 {
     match name {
-        "audit" => audit_of(alloc, arguments),
-        "build" => build_of(alloc, arguments),
-        "explain" => explain_of(alloc, arguments),
-        "lazy" => lazy_of(alloc, arguments),
-        "renew" => Ok(renew_of(arguments)),
-        "replay" => Ok(replay_of(arguments)),
-        "report" => report_of(alloc, arguments),
-        "run" => Ok(run_of(arguments)),
+        "audit" => Ok(audit_of(alloc, arguments)?.map(Request::Audit)),
+        "build" => Ok(build_of(alloc, arguments)?.map(Request::Build)),
+        "explain" => Ok(explain_of(alloc, arguments)?.map(Request::Explain)),
+        "lazy" => Ok(lazy_of(alloc, arguments)?.map(Request::Lazy)),
+        "renew" => Ok(renew_of(arguments).map(Request::Renew)),
+        "replay" => Ok(replay_of(arguments).map(Request::Replay)),
+        "report" => Ok(building_of(alloc, arguments)?.map(Request::Report)),
+        "run" => Ok(run_of(arguments).map(Request::Run)),
         _ => Ok(None),
     }
 }
 
-fn build_of<'a>(alloc: Global, matches: &ArgMatches<'a>) -> Result<Option<Request<'a>>, AllocError>
-    ensures { IfOk result (λ found. IfSome found (Holds (codes "build") (found_of matches.now))) }
+fn build_of<'a>(alloc: Global, matches: &ArgMatches<'a>) -> Result<Option<Build<'a>>, AllocError>
+    ensures { IfOk result (IsWhatHolds (HoldsBuild (rows_of (found_of matches.now)))) }
 {
-    match (matches.get_str("out"), count_of(matches, "workers")) {
-        (Some(image), Some(workers)) => match building_of(alloc, matches)? {
-            Some(building) => Ok(Some(Request::Build(Build {
-                image,
-                report: matches.get_str("report"),
-                building,
-                workers,
-            }))),
-            None => Ok(None),
-        },
-        _ => Ok(None),
+    let Some(image) = text_of(matches, "out") else {
+        return Ok(None);
+    };
+    let Some(workers) = count_of(matches, "workers") else {
+        return Ok(None);
+    };
+    match building_of(alloc, matches)? {
+        Some(building) => Ok(Some(Build {
+            image,
+            report: text_of(matches, "report"),
+            building,
+            workers,
+        })),
+        None => Ok(None),
     }
 }
 
@@ -98,40 +107,29 @@ fn building_of<'a>(
     alloc: Global,
     matches: &ArgMatches<'a>,
 ) -> Result<Option<Building<'a>>, AllocError>
-    ensures { IfOk result (λ found. IfSome found (HoldsBuilding (found_of matches.now))) }
+    ensures { IfOk result (IsWhatHolds (HoldsBuilding (rows_of (found_of matches.now)))) }
 {
-    let files = files_of(alloc, matches)?;
     match number_of(matches, "budget") {
         Some(budget) => Ok(Some(Building {
-            run_time: matches.get_str("run_time"),
-            build_time: matches.get_str("build_time"),
+            run_time: text_of(matches, "run_time"),
+            build_time: text_of(matches, "build_time"),
             budget,
-            files,
+            files: files_of(alloc, matches)?,
             verbose: flag_of(matches, "verbose"),
         })),
         None => Ok(None),
     }
 }
 
-fn audit_of<'a>(alloc: Global, matches: &ArgMatches<'a>) -> Result<Option<Request<'a>>, AllocError>
-    ensures { IfOk result (λ found. IfSome found (Holds (codes "audit") (found_of matches.now))) }
+fn audit_of<'a>(alloc: Global, matches: &ArgMatches<'a>) -> Result<Option<Audit<'a>>, AllocError>
+    ensures { IfOk result (IsWhatHolds (HoldsAudit (rows_of (found_of matches.now)))) }
 {
-    let files = files_of(alloc, matches)?;
-    match matches.get_str("entries") {
-        Some(entries) => Ok(Some(Request::Audit(Audit {
+    match text_of(matches, "entries") {
+        Some(entries) => Ok(Some(Audit {
             entries,
-            files,
+            files: files_of(alloc, matches)?,
             verbose: flag_of(matches, "verbose"),
-        }))),
-        None => Ok(None),
-    }
-}
-
-fn report_of<'a>(alloc: Global, matches: &ArgMatches<'a>) -> Result<Option<Request<'a>>, AllocError>
-    ensures { IfOk result (λ found. IfSome found (Holds (codes "report") (found_of matches.now))) }
-{
-    match building_of(alloc, matches)? {
-        Some(building) => Ok(Some(Request::Report(building))),
+        })),
         None => Ok(None),
     }
 }
@@ -139,102 +137,113 @@ fn report_of<'a>(alloc: Global, matches: &ArgMatches<'a>) -> Result<Option<Reque
 fn explain_of<'a>(
     alloc: Global,
     matches: &ArgMatches<'a>,
-) -> Result<Option<Request<'a>>, AllocError>
-    ensures { IfOk result (λ found. IfSome found (Holds (codes "explain") (found_of matches.now))) }
+) -> Result<Option<Explain<'a>>, AllocError>
+    ensures { IfOk result (IsWhatHolds (HoldsExplain (rows_of (found_of matches.now)))) }
 {
-    match matches.get_str("class") {
+    match text_of(matches, "class") {
         Some(class) => match building_of(alloc, matches)? {
-            Some(building) => Ok(Some(Request::Explain(Explain { class, building }))),
+            Some(building) => Ok(Some(Explain { class, building })),
             None => Ok(None),
         },
         None => Ok(None),
     }
 }
 
-fn lazy_of<'a>(alloc: Global, matches: &ArgMatches<'a>) -> Result<Option<Request<'a>>, AllocError>
-    ensures { IfOk result (λ found. IfSome found (Holds (codes "lazy") (found_of matches.now))) }
+fn lazy_of<'a>(alloc: Global, matches: &ArgMatches<'a>) -> Result<Option<Lazy<'a>>, AllocError>
+    ensures { IfOk result (IsWhatHolds (HoldsLazy (rows_of (found_of matches.now)))) }
 {
-    let files = files_of(alloc, matches)?;
-    match (matches.get_str("entries"), number_of(matches, "limit")) {
-        (Some(entries), Some(limit)) => Ok(Some(Request::Lazy(Lazy {
-            entries,
-            limit,
-            stacks: flag_of(matches, "stacks"),
-            files,
-            verbose: flag_of(matches, "verbose"),
-        }))),
-        _ => Ok(None),
-    }
-}
-
-fn renew_of<'a>(matches: &ArgMatches<'a>) -> Option<Request<'a>>
-    ensures { IfSome result (Holds (codes "renew") (found_of matches.now)) }
-{
-    let new = matches.get_str("out")?;
-    let image = matches.get_str("image")?;
-    Some(Request::Renew(Renew {
-        new,
-        image,
+    let Some(entries) = text_of(matches, "entries") else {
+        return Ok(None);
+    };
+    let Some(limit) = number_of(matches, "limit") else {
+        return Ok(None);
+    };
+    Ok(Some(Lazy {
+        entries,
+        limit,
+        stacks: flag_of(matches, "stacks"),
+        files: files_of(alloc, matches)?,
         verbose: flag_of(matches, "verbose"),
     }))
 }
 
-fn run_of<'a>(matches: &ArgMatches<'a>) -> Option<Request<'a>>
-    ensures { IfSome result (Holds (codes "run") (found_of matches.now)) }
+fn renew_of<'a>(matches: &ArgMatches<'a>) -> Option<Renew<'a>>
+    ensures { IsWhatHolds (HoldsRenew (rows_of (found_of matches.now))) result }
 {
-    let entries = matches.get_str("entries")?;
-    let limit = number_of(matches, "limit")?;
-    let image = matches.get_str("image")?;
-    Some(Request::Run(Run {
+    let new = text_of(matches, "out")?;
+    let image = text_of(matches, "image")?;
+    Some(Renew {
+        new,
+        image,
+        verbose: flag_of(matches, "verbose"),
+    })
+}
+
+fn run_of<'a>(matches: &ArgMatches<'a>) -> Option<Run<'a>>
+    ensures { IsWhatHolds (HoldsRun (rows_of (found_of matches.now))) result }
+{
+    let entries = text_of(matches, "entries")?;
+    let image = text_of(matches, "image")?;
+    let Some(limit) = number_of(matches, "limit") else {
+        return None;
+    };
+    Some(Run {
         entries,
         limit,
         turns: flag_of(matches, "turns"),
         stacks: flag_of(matches, "stacks"),
-        journal: matches.get_str("journal"),
+        journal: text_of(matches, "journal"),
         image,
         verbose: flag_of(matches, "verbose"),
-    }))
+    })
 }
 
-fn replay_of<'a>(matches: &ArgMatches<'a>) -> Option<Request<'a>>
-    ensures { IfSome result (Holds (codes "replay") (found_of matches.now)) }
+fn replay_of<'a>(matches: &ArgMatches<'a>) -> Option<Replay<'a>>
+    ensures { IsWhatHolds (HoldsReplay (rows_of (found_of matches.now))) result }
 {
-    let entries = matches.get_str("entries")?;
-    let journal = matches.get_str("journal")?;
-    let image = matches.get_str("image")?;
-    Some(Request::Replay(Replay {
+    let entries = text_of(matches, "entries")?;
+    let journal = text_of(matches, "journal")?;
+    let image = text_of(matches, "image")?;
+    Some(Replay {
         entries,
         stacks: flag_of(matches, "stacks"),
         journal,
         image,
         verbose: flag_of(matches, "verbose"),
-    }))
+    })
+}
+
+/// The text that is the value of an argument.
+fn text_of<'a>(matches: &ArgMatches<'a>, id: &str) -> Option<&'a str>
+    ensures { text_in result ≡ first_of id.now (rows_of (found_of matches.now)) }
+{
+    matches.get_str(id)
 }
 
 /// Whether a flag was used.
 fn flag_of(matches: &ArgMatches<'_>, id: &str) -> bool
-    ensures { HoldsFlag (found_of matches.now) id.now result }
+    ensures { HoldsFlag (rows_of (found_of matches.now)) id.now result }
 {
     matches.get_flag(id)
 }
 
 /// The number that is the value of an argument.
 fn number_of(matches: &ArgMatches<'_>, id: &str) -> Option<u64>
-    ensures { IfSome result (HoldsNumber (found_of matches.now) id.now) }
+    ensures { IsWhatHolds (HoldsNumber (rows_of (found_of matches.now)) id.now) result }
 {
     matches.get_one::<u64>(id)
 }
 
 /// The number of 32 bits that is the value of an argument.
 fn count_of(matches: &ArgMatches<'_>, id: &str) -> Option<u32>
-    ensures { IfSome result (HoldsBits 32 (found_of matches.now) id.now) }
+    ensures { IsWhatHolds (HoldsBits 32 (rows_of (found_of matches.now)) id.now) result }
 {
     matches.get_one::<u32>(id)
 }
 
 /// The names of the files, in the order given.
 fn files_of<'a>(alloc: Global, matches: &ArgMatches<'a>) -> Result<Vec<&'a str>, AllocError>
-    ensures { IfOk result (λ files. texts files.items ≡ values_of (found_of matches.now) (codes "file")) }
+    ensures { IfOk result (λ files. texts files.items ≡ values_of (rows_of (found_of matches.now)) (codes "file")) }
 {
     match matches.get_strs("file") {
         Some(names) => Vec::from_slice(alloc, names),
@@ -242,8 +251,10 @@ fn files_of<'a>(alloc: Global, matches: &ArgMatches<'a>) -> Result<Vec<&'a str>,
     }
 }
 
-/// The fault of words without a command.
-fn missing(alloc: Global, program: &mut Command<'_>) -> WordsFault {
+/// The fault of words that `clap` takes and that ask for nothing.
+fn missing(alloc: Global, program: &mut Command<'_>) -> WordsFault
+    ensures { SaysKind ErrorKind.MissingSubcommand result }
+{
     match program.error(ErrorKind::MissingSubcommand, "a command is missing") {
         Ok(error) => fault_of(alloc, &error),
         Err(_) => WordsFault::Memory,

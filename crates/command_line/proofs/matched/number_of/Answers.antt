@@ -1,8 +1,8 @@
-use Rattle.clap.specs.Matches.{found_of, one_text}
+use Rattle.clap.specs.Matches.{found_of}
 use Rattle.command_line.proofs.MatchesLemmas.{number_read}
 use Rattle.command_line.proofs.matched.number_of.Goals as goal
 
 pub returns : goal.returns
 returns c =
-    number_read (one_text (found_of c.args.matches.now) c.args.id.now) c.get_one.result c.get_one.ensures.none
+    number_read 64 (found_of c.args.matches.now) c.args.id.now c.get_one.result c.get_one.ensures.none
     c.get_one.ensures.value
