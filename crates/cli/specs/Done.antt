@@ -33,6 +33,7 @@ use Rattle.cli.specs.Explanations.{HasExplained}
 use Rattle.cli.specs.Files.{AreBytesOf, Contents, OthersStay}
 use Rattle.cli.specs.ImageBuilds.{IsBuiltText}
 use Rattle.cli.specs.ImageRuns.{IsTextOf}
+use Rattle.cli.specs.Journaled.{KeepsLimit}
 use Rattle.cli.specs.Lists.{NamesGiven}
 use Rattle.cli.specs.Outputs.{AreListsApart, IsApart}
 use Rattle.cli.specs.Renewals.{IsRenewed}
@@ -81,13 +82,15 @@ abbrev pub IsWritten : Contents → Contents → Option (Bor (List ℕ)) → Lis
 IsWritten old new None schedule = new ≡ old
 IsWritten old new (Some name) schedule = IsWrittenTo old new name.now schedule
 
--- A run from a world has ended so, and its journal is written.
-pub record HasEndedWithJournal (old new : Contents) (journal : Option (Bor (List ℕ))) (P : Tables) (first : World)
+-- A run from a world has ended so, by turns or by threads as the words say, at its limit if not before. Its journal is
+-- written.
+pub record HasEndedWithJournal (old new : Contents) (words : Run) (P : Tables) (first : World)
     (before after : Option (List ℕ)) (status : Status) : Type 0 where
   pub schedule : List ℕ
   pub last : World
   pub ended : HasEnded P first schedule last before after status
-  pub written : IsWritten old new journal schedule
+  pub keeps : KeepsLimit words.turns words.limit P first schedule last ended.rest
+  pub written : IsWritten old new words.journal schedule
 
 -- The image ran from the entries of the words, and its journal was written.
 pub record HasRunImage (old new : Contents) (words : Run) (before after : Option (List ℕ)) (status : Status)
@@ -95,7 +98,7 @@ pub record HasRunImage (old new : Contents) (words : Run) (before after : Option
   pub image : ImageTables
   pub first : World
   pub begun : IsBegunFromImage old words.image.now words.entries.now image first
-  pub ended : HasEndedWithJournal old new words.journal image.program first before after status
+  pub ended : HasEndedWithJournal old new words image.program first before after status
 
 -- The image ran from the entries of the words by the journal that the file holds.
 pub record HasReplayed (holds : Contents) (words : Replay) (before after : Option (List ℕ)) (status : Status)

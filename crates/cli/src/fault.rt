@@ -12,6 +12,7 @@ use init_engine::EntryFault;
 use journal::JournalFault;
 use program::LinkFault;
 use std::alloc::{AllocError, Global};
+use std::fmt::{self, Display, Formatter, Write};
 use thiserror::Error;
 use wave_scheduler::outcome::WaveFault;
 
@@ -19,47 +20,75 @@ use wave_scheduler::outcome::WaveFault;
 #[derive(Debug, Drop, Error)]
 pub enum CommandFault {
     /// Memory was refused, by any of the calls.
-    #[error("Memory")]
     Memory,
     /// A file of this place among the class files, from 0, is no class file.
-    #[error("Class {0} {1}")]
     Class(usize, ClassFault),
     /// The classes do not make one program.
-    #[error("Link {0}")]
     Link(LinkFault),
     /// A file is no image.
-    #[error("{0}")]
     Image(ImageFault),
     /// An entry can't be run.
-    #[error("Entry {0}")]
     Entry(EntryFault),
     /// A list of patterns of classes is wrong, as this text says.
-    #[error("Option {0}")]
     Option(String),
     /// The budget is 0, or over 1,000,000,000.
-    #[error("Budget")]
     Budget,
     /// The waves can't be tried as it was asked.
-    #[error("Wave {0}")]
     Wave(WaveFault),
     /// The file of this name, as given, was not read or written.
-    #[error("File {0}")]
     File(String, FileCause),
     /// The list of this name, as given, is not UTF-8.
-    #[error("List {0}")]
     List(String),
     /// A line of a journal is none, from 1.
-    #[error("Text {0}")]
     Text(usize),
     /// The thread of a line of a journal is not there or has no step, from 1.
-    #[error("Turn {0}")]
     Turn(usize),
     /// A thread could not be started.
-    #[error("Spawn")]
     Spawn,
     /// Standard output failed.
-    #[error("Device")]
     Device,
+}
+
+impl Display for CommandFault {
+    fn fmt<W: Write>(&self, formatter: &mut Formatter<W>) -> Result<(), fmt::Error> {
+        formatter.write_str(self.word())?;
+        match self {
+            CommandFault::Class(place, fault) => write!(formatter, "{place} {fault}"),
+            CommandFault::Link(fault) => fault.fmt(formatter),
+            CommandFault::Image(fault) => fault.fmt(formatter),
+            CommandFault::Entry(fault) => fault.fmt(formatter),
+            CommandFault::Wave(fault) => fault.fmt(formatter),
+            CommandFault::Option(text) | CommandFault::File(text, _) | CommandFault::List(text) =>
+                formatter.write_str(text.as_str()),
+            CommandFault::Text(line) | CommandFault::Turn(line) => line.fmt(formatter),
+            CommandFault::Memory
+            | CommandFault::Budget
+            | CommandFault::Spawn
+            | CommandFault::Device => Ok(()),
+        }
+    }
+}
+
+impl CommandFault {
+    /// What its text begins with. That of an image's fault has no word before it.
+    fn word(&self) -> &'static str {
+        match self {
+            CommandFault::Memory => "Memory",
+            CommandFault::Class(..) => "Class ",
+            CommandFault::Link(_) => "Link ",
+            CommandFault::Image(_) => "",
+            CommandFault::Entry(_) => "Entry ",
+            CommandFault::Option(_) => "Option ",
+            CommandFault::Budget => "Budget",
+            CommandFault::Wave(_) => "Wave ",
+            CommandFault::File(..) => "File ",
+            CommandFault::List(_) => "List ",
+            CommandFault::Text(_) => "Text ",
+            CommandFault::Turn(_) => "Turn ",
+            CommandFault::Spawn => "Spawn",
+            CommandFault::Device => "Device",
+        }
+    }
 }
 
 impl CommandFault {
@@ -111,6 +140,7 @@ impl CommandFault {
     pub(crate) fn of_entry(fault: EntryFault) -> CommandFault
         ensures memory { fault ≡ EntryFault.Memory → result ≡ CommandFault.Memory }
         ensures other { fault ≢ EntryFault.Memory → result ≡ CommandFault.Entry fault }
+        ensures status { refusal_status result ≡ Status.Refused }
     {
         match fault {
             EntryFault::Memory => CommandFault::Memory,

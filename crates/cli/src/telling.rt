@@ -5,6 +5,7 @@ ghost use Rattle.vm_state.specs.Output.{text_of};
 ghost use Rattle.cli.specs.Done.{HasHelped};
 ghost use Rattle.cli.specs.CommandFault.{refusal_status};
 ghost use Rattle.cli.specs.Status.{IsOver, audit_status, replay_status};
+ghost use Rattle.cli.specs.steps.Left.{status_of_done};
 
 use crate::auditing::Audited;
 use crate::meanings::Errors;
@@ -95,6 +96,7 @@ pub(crate) fn tell_endings<E: Errors>(
 
 /// Tells why a command that has nothing else to tell was refused, if it was.
 pub(crate) fn tell_done<E: Errors>(done: Result<(), CommandFault>, errors: &mut E) -> Status
+    ensures status { result ≡ status_of_done done }
     ensures words { result ≢ Status.Words }
     ensures done { IsOver result → (result ≡ Status.Done) × IsOk done }
 {
@@ -111,6 +113,7 @@ pub(crate) fn tell_built<E: Errors, H: Watch>(
     watch: &H,
     errors: &mut E,
 ) -> Status
+    ensures status { result ≡ status_of_done built }
     ensures words { result ≢ Status.Words }
     ensures done { IsOver result → (result ≡ Status.Done) × IsOk built }
 {
