@@ -1,7 +1,7 @@
 //! The files of the system. A regular file is written beside its name and takes its place when it is whole.
 
 use cli::{FileCause, FileFault, Files};
-use std::alloc::Global;
+use std::alloc::{AllocError, Global};
 use std::fs::{self, File, Metadata, OpenFile};
 use std::io::{self, ErrorKind, Read, Write};
 use std::os::unix::fs::MetadataExt;
@@ -10,8 +10,12 @@ use std::rt;
 /// How many bytes are read at once: most class files have fewer.
 const PIECE: usize = 16_384;
 
-/// How many names are tried for a file beside another.
-const NAMES: u32 = 100;
+/// How many links a name may lead through, as the system has it.
+const LINKS: u32 = 40;
+
+/// How many characters of its name a file beside another has, so that no name is too long for one: 60 take 240 bytes at
+/// most, and a number and what stands around it 15.
+const NAME: usize = 60;
 
 /// The files of the system, by their paths.
 #[derive(Drop)]
@@ -40,25 +44,91 @@ impl<R: rt::Files + AllocGlobal> Files for Disk<'_, R> {
         match fs::metadata(self.rt, name) {
             Ok(old) if old.is_file() => replace(self.rt, name, &old, bytes).map_err(file_fault),
             Ok(_) => fs::write(self.rt, name, bytes).map_err(file_fault),
-            Err(error) if error.kind() == ErrorKind::NotFound => {
-                make(self.rt, name, bytes).map_err(file_fault)
-            }
+            Err(error) if is_absent(&error) => make(self.rt, name, bytes).map_err(file_fault),
             Err(error) => Err(file_fault(error)),
         }
     }
 
     fn are_one(&mut self, first: &str, second: &str) -> bool {
-        first == second || are_one_regular_file(self.rt, first, second)
+        if first == second {
+            return true;
+        }
+        match (fs::metadata(self.rt, first), fs::metadata(self.rt, second)) {
+            (Ok(one), Ok(other)) => one.is_file() && are_one_node(&one, &other),
+            (Err(one), Err(other)) if is_absent(&one) && is_absent(&other) => {
+                are_one_new_file(self.rt, first, second)
+            }
+            _ => false,
+        }
     }
 }
 
-/// Whether two names are of one regular file.
-fn are_one_regular_file<R: rt::Files>(rt: &R, first: &str, second: &str) -> bool {
-    match (fs::metadata(rt, first), fs::metadata(rt, second)) {
-        (Ok(one), Ok(other)) => {
-            one.is_file() && one.dev() == other.dev() && one.ino() == other.ino()
-        }
+/// Whether the system says that there is no file of a name, or no folder for it.
+fn is_absent(error: &io::Error) -> bool {
+    error.kind() == ErrorKind::NotFound
+}
+
+/// Whether two names are of one file or of one folder.
+fn are_one_node(one: &Metadata, other: &Metadata) -> bool {
+    one.dev() == other.dev() && one.ino() == other.ino()
+}
+
+/// Whether two names of no file are those of one file, once it is made. Where memory is refused, that is not seen.
+fn are_one_new_file<R: rt::Files + AllocGlobal>(rt: &R, first: &str, second: &str) -> bool {
+    match (made_name(rt, first), made_name(rt, second)) {
+        (Ok(one), Ok(other)) => are_one_place(rt, one.as_str(), other.as_str()),
         _ => false,
+    }
+}
+
+/// Whether two names are one in one folder.
+fn are_one_place<R: rt::Files>(rt: &R, first: &str, second: &str) -> bool {
+    let (first_folder, first) = parted(first);
+    let (second_folder, second) = parted(second);
+    if first != second {
+        return false;
+    }
+    match (
+        fs::metadata(rt, first_folder),
+        fs::metadata(rt, second_folder),
+    ) {
+        (Ok(one), Ok(other)) => are_one_node(&one, &other),
+        _ => false,
+    }
+}
+
+/// The folder that a name stands in, and the name there.
+fn parted(name: &str) -> (&str, &str) {
+    match name.rsplit_once('/') {
+        Some(("", file)) => ("/", file),
+        Some(parts) => parts,
+        None => (".", name),
+    }
+}
+
+/// The name of the file that is made where there is none of this name: of a link it is what the link leads to.
+fn made_name<R: rt::Files + AllocGlobal>(rt: &R, name: &str) -> io::Result<String> {
+    let mut made = String::from_str(rt.alloc(), name)?;
+    for _ in 0..LINKS {
+        match fs::read_link(rt, made.as_str()) {
+            Ok(target) => made = linked(rt.alloc(), made.as_str(), target.as_str())?,
+            Err(error) if is_no_link(&error) => return Ok(made),
+            Err(error) => return Err(error),
+        }
+    }
+    Err(io::Error::from(ErrorKind::NotFound))
+}
+
+/// Whether the system says that a name is not that of a link.
+fn is_no_link(error: &io::Error) -> bool {
+    matches!(error.kind(), ErrorKind::InvalidInput | ErrorKind::NotFound)
+}
+
+/// What a link of this name leads to.
+fn linked(alloc: Global, name: &str, target: &str) -> Result<String, AllocError> {
+    match name.rsplit_once('/') {
+        Some((folder, _)) if !target.starts_with('/') => format!(in alloc; "{folder}/{target}"),
+        _ => String::from_str(alloc, target),
     }
 }
 
@@ -80,10 +150,12 @@ fn replace<R: rt::Files + AllocGlobal>(
     removed_unless(rt, beside.as_str(), moved)
 }
 
-/// Makes a file of these bytes where none has the name.
+/// Makes a file of these bytes where none has the name. Where the name is a link, its target is made.
 fn make<R: rt::Files + AllocGlobal>(rt: &R, name: &str, bytes: &[u8]) -> io::Result<()> {
-    let beside = written_beside(rt, name, bytes)?;
-    let moved = fs::rename(rt, beside.as_str(), name);
+    let made = made_name(rt, name)?;
+    let made = made.as_str();
+    let beside = written_beside(rt, made, bytes)?;
+    let moved = fs::rename(rt, beside.as_str(), made);
     removed_unless(rt, beside.as_str(), moved)
 }
 
@@ -93,8 +165,8 @@ fn written_beside<R: rt::Files + AllocGlobal>(
     name: &str,
     bytes: &[u8],
 ) -> io::Result<String> {
-    for number in 0..NAMES {
-        let beside = format!(in rt.alloc(); "{name}.{number}.new")?;
+    for number in 0..u32::MAX {
+        let beside = beside_name(rt.alloc(), name, number)?;
         match File::create_new(rt, beside.as_str()) {
             Ok(file) => {
                 let written = write_whole(file, bytes);
@@ -106,6 +178,14 @@ fn written_beside<R: rt::Files + AllocGlobal>(
         }
     }
     Err(io::Error::from(ErrorKind::AlreadyExists))
+}
+
+/// A name for a file beside another one.
+fn beside_name(alloc: Global, name: &str, number: u32) -> Result<String, AllocError> {
+    match name.rsplit_once('/') {
+        Some((folder, file)) => format!(in alloc; "{folder}/{file:.NAME$}.{number}.new"),
+        None => format!(in alloc; "{name:.NAME$}.{number}.new"),
+    }
 }
 
 /// Writes these bytes, up to the device.
