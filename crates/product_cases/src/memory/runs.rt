@@ -30,7 +30,7 @@ fn make<W: Write>(page: &mut Page<'_, W>, name: &str, program: &Program, entries
         "World::lazy" => start_at(page, program, entries),
         "step" => step_main(page, program),
         "effect" => effect_plain(page, program),
-        "turns" | "seen" => turn_main(page, name, program),
+        "turns" | "seen" | "into_seen" => turn_main(page, name, program),
         _ => page.give_up(),
     }
 }
@@ -95,14 +95,20 @@ fn turn_main<W: Write>(page: &mut Page<'_, W>, name: &str, program: &Program) {
     }
     match turns(page.alloc, program, world, MANY) {
         Ok((_, schedule)) if name == "turns" => page.value(schedule.len()),
-        Ok((world, _)) => see_world(page, world),
+        Ok((world, _)) => see_world(page, name, world),
         Err(_) => page.memory(),
     }
 }
 
-fn see_world<W: Write>(page: &mut Page<'_, W>, world: World) {
-    page.ask("seen");
-    match world.into_seen(page.alloc) {
+/// What is seen of a world that is lent, or handed over.
+fn see_world<W: Write>(page: &mut Page<'_, W>, name: &str, world: World) {
+    page.ask(name);
+    let seen = if name == "seen" {
+        world.seen(page.alloc)
+    } else {
+        world.into_seen(page.alloc)
+    };
+    match seen {
         Ok(seen) => page.value(seen.printed.count()),
         Err(_) => page.memory(),
     }
