@@ -36,7 +36,7 @@ use Rattle.program.specs.Tables.{Tables}
 use Rattle.machine.specs.Linked.{program_of}
 use Rattle.machine.specs.Table.{row}
 use Rattle.courses.specs.Courses.{Above, Course, above, over}
-use Rattle.courses.specs.Smooth.{run_smooth, when_held, when_ready}
+use Rattle.register_code.specs.Smooth.{run_smooth, when_held, when_ready}
 use Rattle.evaluator.specs.steps.Courses.{Alone, GoesAhead}
 use Rattle.evaluator.specs.steps.Steps.{GoesOn}
 use Rattle.evaluator.proofs.StepsLemmas.{goes_further}

@@ -4,15 +4,15 @@
 ghost use Rattle.std.specs.Prelude.{◌≡◌, ℕ, IfOk, OnOk};
 ghost use Rattle.vm_state.specs.Shares.{shared_of};
 ghost use Rattle.program.specs.Tables.{Tables};
-ghost use Rattle.courses.specs.steps.StepTables.{KeepsSteps};
+ghost use Rattle.method_lowering.specs.steps.StepTables.{KeepsSteps};
 ghost use Rattle.machine.specs.Linked.{program_of};
 ghost use Rattle.region_shape.specs.Regions.{region_of};
 ghost use Rattle.evaluator.specs.steps.Courses.{IsAlone, GoesAhead};
 
 use crate::step::Initializer;
 use courses::course::run_segment;
-use courses::step_table::StepTable;
 use machine::kinds::Actor;
+use method_lowering::step_table::StepTable;
 use region_shape::regions::Region;
 use std::alloc::{AllocError, Global};
 use std::mem;

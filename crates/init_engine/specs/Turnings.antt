@@ -4,7 +4,7 @@ use Rattle.std.specs.Prelude.{None, replicate, sum_by}
 use Rattle.vm_state.specs.Output.{Print}
 use Rattle.semantics.specs.Programs.{Program}
 use Rattle.semantics.specs.Worlds.{World, Run, step}
-use Rattle.courses.specs.steps.StepTables.{Kept, KeepsSteps}
+use Rattle.method_lowering.specs.steps.StepTables.{Kept, KeepsSteps}
 use Rattle.program.specs.Tables.{Tables}
 use Rattle.init_engine.specs.Standing.{Standing}
 use Rattle.init_engine.specs.Schedules.{schedule_of}

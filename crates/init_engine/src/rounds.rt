@@ -5,7 +5,7 @@ ghost use Rattle.std.specs.Bool.{OnFalse, OnTrue};
 ghost use Rattle.vm_state.specs.Output.{Print};
 ghost use Rattle.semantics.specs.Worlds.{Run};
 ghost use Rattle.machine.specs.Linked.{program_of};
-ghost use Rattle.courses.specs.steps.StepTables.{KeepsSteps};
+ghost use Rattle.method_lowering.specs.steps.StepTables.{KeepsSteps};
 ghost use Rattle.init_engine.specs.Turns.{IsTurn, world_of};
 ghost use Rattle.init_engine.specs.Schedules.{schedule_of};
 ghost use Rattle.init_engine.specs.steps.Rounds.{IsAsking, IsRunAhead};
@@ -15,7 +15,7 @@ ghost use Rattle.init_engine.specs.Turnings.{RunsAhead};
 
 use crate::schedule::Schedule;
 use crate::world::{Turn, World};
-use courses::step_table::StepTable;
+use method_lowering::step_table::StepTable;
 use program::Program;
 use std::alloc::{AllocError, Global};
 use vm_state::output::Output;

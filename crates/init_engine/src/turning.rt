@@ -13,7 +13,7 @@ ghost use Rattle.init_engine.specs.Rounds.{Turns, HasStopped};
 use crate::rounds::{Allowance, RoundPlace, run_rounds};
 use crate::schedule::Schedule;
 use crate::world::World;
-use courses::step_table::StepTable;
+use method_lowering::step_table::StepTable;
 use program::Program;
 use std::alloc::{AllocError, Global};
 use std::marker::Model;

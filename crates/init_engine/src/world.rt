@@ -10,7 +10,7 @@ ghost use Rattle.init_engine.specs.Numbering.{AreNumbered};
 ghost use Rattle.init_engine.specs.Observations.{IsObservation};
 ghost use Rattle.init_engine.specs.steps.Threads.{RunsHere, TopRuns, IsTurnOf, view_of};
 ghost use Rattle.machine.specs.Linked.{program_of};
-ghost use Rattle.courses.specs.steps.StepTables.{KeepsSteps};
+ghost use Rattle.method_lowering.specs.steps.StepTables.{KeepsSteps};
 ghost use Rattle.init_engine.specs.Threads.{thread_of, seen_of, HasNumber};
 ghost use Rattle.init_engine.specs.Turns.{IsTurn, Prints, world_of};
 ghost use Rattle.init_engine.specs.Stacks.{with_thread};
@@ -20,8 +20,8 @@ ghost use Rattle.vm_state.specs.declared.initialization.Level.{Level};
 
 use crate::procedure::{Progress, step_thread};
 use courses::passage::run_passage;
-use courses::step_table::StepTable;
 use machine::effects::actor_of;
+use method_lowering::step_table::StepTable;
 use program::Program;
 use std::alloc::{AllocError, Global};
 use std::marker::Model;

@@ -4,7 +4,7 @@ ghost use Rattle.std.specs.Prelude.{◌≡◌, ◌<◌, ◌⊎◌, ℕ, Bool, tr
 ghost use Rattle.std.specs.Prelude.{length, replicate, slice_get, slice_set};
 ghost use Rattle.semantics.specs.Worlds.{Run};
 ghost use Rattle.machine.specs.Linked.{program_of};
-ghost use Rattle.courses.specs.steps.StepTables.{KeepsSteps};
+ghost use Rattle.method_lowering.specs.steps.StepTables.{KeepsSteps};
 ghost use Rattle.init_engine.specs.Schedules.{schedule_of, AreRuns};
 ghost use Rattle.init_engine.specs.Turns.{world_of};
 ghost use Rattle.thread_runner.specs.Replays.{NoRun, ReplayFails};
@@ -12,8 +12,8 @@ ghost use Rattle.thread_runner.specs.declared.replay.ReplayFault.TheVariants.{Me
 ghost use Rattle.stacks.specs.Stacks.{AreBefore};
 ghost use Rattle.stacks.specs.steps.Replaying.{AreLast, IsKept, StoodIn};
 
-use courses::step_table::StepTable;
 use init_engine::World;
+use method_lowering::step_table::StepTable;
 use program::Program;
 use std::alloc::{AllocError, Global};
 use thread_runner::replay::{ReplayFault, take_steps};

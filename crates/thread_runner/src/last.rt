@@ -2,7 +2,7 @@
 
 ghost use Rattle.std.specs.Prelude.{◌≡◌, ◌+◌, ◌<◌, ◌^◌, ◌++◌, IfErr, IfOk, IfSome, OnOk, length, replicate};
 ghost use Rattle.machine.specs.Linked.{program_of};
-ghost use Rattle.courses.specs.steps.StepTables.{KeepsSteps};
+ghost use Rattle.method_lowering.specs.steps.StepTables.{KeepsSteps};
 ghost use Rattle.init_engine.specs.Schedules.{schedule_of, AreRuns};
 ghost use Rattle.init_engine.specs.Turnings.{RunsAhead};
 ghost use Rattle.thread_runner.specs.Answers.{HavePrintsGoneOut};
@@ -10,8 +10,8 @@ ghost use Rattle.thread_runner.specs.Answers.{HavePrintsGoneOut};
 use crate::advance::add_some;
 use crate::desk::{Desk, Session};
 use crate::tools::Tools;
-use courses::step_table::StepTable;
 use init_engine::World;
+use method_lowering::step_table::StepTable;
 use program::Program;
 use sinks::Sink;
 use std::alloc::{AllocError, Global};

@@ -1,7 +1,7 @@
 //! Journals, replayed.
 
 ghost use Rattle.std.specs.Prelude.{◌≡◌, ◌<◌, ◌⊎◌, true, false, IfOk, IfErr, OnOk, length, replicate};
-ghost use Rattle.courses.specs.steps.StepTables.{KeepsSteps};
+ghost use Rattle.method_lowering.specs.steps.StepTables.{KeepsSteps};
 ghost use Rattle.semantics.specs.Worlds.{Run};
 ghost use Rattle.machine.specs.Linked.{program_of};
 ghost use Rattle.init_engine.specs.Schedules.{schedule_of, AreRuns};
@@ -9,9 +9,9 @@ ghost use Rattle.init_engine.specs.Turns.{world_of};
 ghost use Rattle.thread_runner.specs.Replays.{IsReplay, NoRun, ReplayFails};
 ghost use Rattle.thread_runner.specs.declared.replay.ReplayFault.TheVariants.{Memory};
 
-use courses::step_table::StepTable;
 use init_engine::{Seen, World};
 use journal::Journal;
+use method_lowering::step_table::StepTable;
 use program::Program;
 use std::alloc::{AllocError, Global};
 

@@ -1,7 +1,7 @@
 -- What a thread does that runs on alone in the world of a history.
 use Rattle.std.specs.Prelude.{◌≡◌, ℕ, ◌+◌, ◌<◌, ◌++◌, length, replicate}
 use Rattle.program.specs.Tables.{Tables}
-use Rattle.courses.specs.steps.StepTables.{Kept, KeepsSteps}
+use Rattle.method_lowering.specs.steps.StepTables.{Kept, KeepsSteps}
 use Rattle.init_engine.specs.Schedules.{schedule_of}
 use Rattle.thread_runner.specs.Kept.{Grows, Past, steps_of}
 

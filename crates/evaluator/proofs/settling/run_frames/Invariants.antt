@@ -1,6 +1,6 @@
 use Rattle.std.proofs.Common.{◌≤◌}
 use Rattle.vm_state.specs.Segments.{frames_of}
-use Rattle.courses.specs.steps.StepTables.{KeepsSteps}
+use Rattle.method_lowering.specs.steps.StepTables.{KeepsSteps}
 use Rattle.machine.specs.Linked.{program_of}
 use Rattle.region_shape.specs.Regions.{region_of, environment_of}
 use Rattle.evaluator.specs.steps.Courses.{IsAlone}

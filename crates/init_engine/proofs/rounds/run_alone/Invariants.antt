@@ -1,7 +1,7 @@
 use Rattle.std.proofs.Common.{◌≡◌, ◌-◌, ◌≤◌, length, replicate}
 use Rattle.semantics.specs.Worlds.{Run}
 use Rattle.machine.specs.Linked.{program_of}
-use Rattle.courses.specs.steps.StepTables.{KeepsSteps}
+use Rattle.method_lowering.specs.steps.StepTables.{KeepsSteps}
 use Rattle.init_engine.specs.Turns.{world_of}
 use Rattle.init_engine.specs.steps.Slices.{PrintsBy}
 use Rattle.init_engine.proofs.rounds.run_alone.Given as goal

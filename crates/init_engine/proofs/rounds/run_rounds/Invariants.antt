@@ -1,6 +1,6 @@
 use Rattle.std.proofs.Common.{◌≡◌, length}
 use Rattle.machine.specs.Linked.{program_of}
-use Rattle.courses.specs.steps.StepTables.{KeepsSteps}
+use Rattle.method_lowering.specs.steps.StepTables.{KeepsSteps}
 use Rattle.init_engine.specs.Turns.{world_of}
 use Rattle.init_engine.specs.Schedules.{schedule_of}
 use Rattle.init_engine.specs.steps.Slices.{GoesOn, IsPlace, Spends}

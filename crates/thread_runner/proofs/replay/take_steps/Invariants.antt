@@ -1,7 +1,7 @@
 use Rattle.std.proofs.Common.{◌≡◌, ◌≤◌, ◌-◌, length, replicate}
 use Rattle.semantics.specs.Worlds.{Run}
 use Rattle.machine.specs.Linked.{program_of}
-use Rattle.courses.specs.steps.StepTables.{KeepsSteps}
+use Rattle.method_lowering.specs.steps.StepTables.{KeepsSteps}
 use Rattle.init_engine.specs.Turns.{world_of}
 use Rattle.thread_runner.proofs.replay.take_steps.Given as goal
 

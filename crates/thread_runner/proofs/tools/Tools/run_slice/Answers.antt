@@ -1,6 +1,6 @@
 use Rattle.std.proofs.Common.{◌∙◌, arith, subst, sym}
 use Rattle.program.specs.Tables.{Tables}
-use Rattle.courses.specs.steps.StepTables.{KeepsSteps}
+use Rattle.method_lowering.specs.steps.StepTables.{KeepsSteps}
 use Rattle.thread_runner.proofs.AnswerLemmas.{holds_still, lines_gone}
 use Rattle.thread_runner.proofs.tools.Tools.run_slice.Goals as goal
 
