@@ -25,3 +25,8 @@ def rt():
 def edits_beside(crate):
     """The files edits/CRATE/*.edit, which the gate does not try."""
     return sorted(glob.glob(f"{ROOT}/edits/{crate}/*.edit"))
+
+
+def edits_of_gate(crate):
+    """The files crates/CRATE/must-fail/*.edit, which the gate tries."""
+    return sorted(glob.glob(f"{ROOT}/crates/{crate}/must-fail/*.edit"))
