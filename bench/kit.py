@@ -25,3 +25,21 @@ def rt():
 def edits_beside(crate):
     """The files edits/CRATE/*.edit, which the gate does not try."""
     return sorted(glob.glob(f"{ROOT}/edits/{crate}/*.edit"))
+
+
+def edits_of_gate(crate):
+    """The files crates/CRATE/must-fail/*.edit, which the gate tries."""
+    return sorted(glob.glob(f"{ROOT}/crates/{crate}/must-fail/*.edit"))
+
+
+def source(crate, file):
+    """The text of a file of a crate."""
+    with open(f"{ROOT}/crates/{crate}/{file}", encoding="utf-8") as it:
+        return it.read()
+
+
+def answers(crate, module, function):
+    """The texts of what is written of the proofs of the functions of a name."""
+    for path in glob.glob(f"{ROOT}/crates/{crate}/proofs/{module}/**/{function}/*.antt", recursive=True):
+        with open(path, encoding="utf-8") as it:
+            yield it.read()

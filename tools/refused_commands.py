@@ -24,11 +24,16 @@ OLD = b"old"
 CLASSES = "questions/java/init_enum_basic_*.class"
 LEFT_OUT, SEVEN = "questions/java/lambda_Main.class", "crates/preinit/data/M.class"
 LONG = "questions/java/algo_crc_adler_Crc.class"
+# Small classes that have all sorts of objects, and threads that print, raise and hold a monitor: on these `product_cases`
+# makes its own calls.
+SMALL = "crates/product_cases/data/assembled/memory/classes.txt"
+RUN_TIME, BUILD_TIME, TWO = ["--initialize-at-run-time"], ["--initialize-at-build-time"], ["--entries", "Main,Work"]
 
 
-def commands(classes):
+def commands(classes, small):
     """Commands in the order in which they can be made: the words, the status, the files that each writes, in their
-    order, and whether it starts threads. What threads print that run at once is the same for each."""
+    order, and whether it starts threads. What threads print that run at once is the same for each. Those on the
+    small classes take lists of patterns, of which one asks too much, and run threads of one entry and of two."""
     build = ["build", "--workers", "2", "--report", "app.txt", "--out", "app.img"]
     return [
         ([*build, *classes], 0, ["app.txt", "app.img"], True),
@@ -44,6 +49,13 @@ def commands(classes):
         (["run", "--entries", "Main", "--journal", "run.journal", "app.img"], 0, ["run.journal"], False),
         (["run", "--turns", "--entries", "Main", "--journal", "turns.journal", "app.img"], 0, ["turns.journal"], False),
         (["replay", "--entries", "Main", "--journal", "run.journal", "app.img"], 0, [], False),
+        (["report", *RUN_TIME, "E,Box", *BUILD_TIME, "W,I,Point", *small], 0, [], False),
+        (["report", *BUILD_TIME, "Log", *small], 1, [], False),
+        (["build", "--workers", "3", *RUN_TIME, "Uses", "--out", "small.img", *small], 0, ["small.img"], True),
+        (["lazy", "--entries", "Main,Work,Main", *small], 6, [], False),
+        (["run", "--entries", "Work,Work,Work", "small.img"], 0, [], True),
+        (["run", "--turns", *TWO, "--journal", "two.journal", "small.img"], 6, ["two.journal"], False),
+        (["replay", *TWO, "--journal", "two.journal", "small.img"], 6, [], False),
     ]
 
 
@@ -119,7 +131,12 @@ def check(path, library, root, room, say):
     os.mkdir(folder)
     for file in glob.glob(f"{root}/{CLASSES}"):
         shutil.copy(file, folder)
-    made = commands(sorted(os.listdir(folder)))
+    with open(f"{root}/{SMALL}", encoding="utf-8") as it:
+        small = {f"small{place:02}.class": bytes.fromhex(digits) for place, digits in enumerate(it.read().split())}
+    made = commands(sorted(os.listdir(folder)), list(small))
+    for name, content in small.items():
+        with open(f"{folder}/{name}", "wb") as it:
+            it.write(content)
     for file in (LEFT_OUT, SEVEN, LONG):
         shutil.copy(f"{root}/{file}", folder)
     tried = []

@@ -11,7 +11,6 @@
 mod about;
 mod answer;
 mod cases;
-mod class_files;
 mod codes;
 mod graphs;
 mod hex;
@@ -24,7 +23,6 @@ mod streams;
 mod tables;
 mod threads;
 mod uses;
-mod words;
 
 use about::About;
 use cases::run_cases;

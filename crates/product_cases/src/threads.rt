@@ -9,7 +9,7 @@ mod gates;
 mod meeting;
 mod plan;
 mod runs;
-mod settling;
+pub mod settling;
 mod shown;
 mod starts;
 mod worker_gates;
