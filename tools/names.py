@@ -50,9 +50,9 @@ def text_of(path):
 
 
 def crate_of(path):
-    """The crate that a file is of, or none."""
+    """The crate that a file is of, or none, as of lists that go through several."""
     parts = path.split("/")
-    return parts[1] if parts[0] == "crates" and len(parts) > 2 else None
+    return None if parts[-1] == "ADDING.md" else parts[1] if parts[0] == "crates" and len(parts) > 2 else None
 
 
 class Tree:
