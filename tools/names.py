@@ -168,7 +168,7 @@ def crates_apart():
 def main():
     tree = Tree()
     documents = [os.path.relpath(os.path.abspath(path), ROOT) for path in sys.argv[1:]] or [
-        path for path in tree.files if path.endswith(".md") and re.match(r"[^/]+$|docs/|bench/|crates/[^/]+/[^/]+$", path)]
+        path for path in tree.files if path.endswith(".md") and re.match(r"[^/]+$|(docs|bench|edits)/|crates/[^/]+/[^/]+$", path)]
     apart = crates_apart()
     lost = len(apart)
     for it in apart:
