@@ -159,7 +159,7 @@ def crates_apart():
     """The crates that crates.txt or the tables of docs/ARCHITECTURE.md lack, and its picture where that is another."""
     text = text_of("docs/ARCHITECTURE.md")
     listed_there = re.findall(r"(?m)^([a-z_]+)[^:\n]*:", text_of("crates.txt"))
-    rows = re.findall(r"(?m)^\| (`[a-z_]+`(?:, `[a-z_]+`)*) \|", text.partition("| Crate |")[2])
+    rows = re.findall(r"(?m)^(?:\| )?(`[a-z_]+`(?:, `[a-z_]+`)*) \|", text.partition("Crate |")[2])
     named = re.findall(r"[a-z_]+", " ".join(rows))
     drawn = subprocess.run([f"{ROOT}/bench/layers"], capture_output=True, text=True, check=True).stdout
     return sorted(set(listed_there) ^ set(named)) + ["the picture of bench/layers"] * (drawn not in text)
