@@ -24,8 +24,8 @@ OLD = b"old"
 CLASSES = "questions/java/init_enum_basic_*.class"
 LEFT_OUT, SEVEN = "questions/java/lambda_Main.class", "crates/preinit/data/M.class"
 LONG = "questions/java/algo_crc_adler_Crc.class"
-# Small classes that have all sorts of objects, and threads that print, raise and hold a monitor: on these `product_cases`
-# makes its own calls.
+# Small classes that have all sorts of objects, and threads that print, raise and hold a monitor: on these
+# `product_cases` makes its own calls.
 SMALL = "crates/product_cases/data/assembled/memory/classes.txt"
 RUN_TIME, BUILD_TIME, TWO = ["--initialize-at-run-time"], ["--initialize-at-build-time"], ["--entries", "Main,Work"]
 

@@ -1,4 +1,3 @@
-pub mod AskedLemmas
 pub mod DescribedLemmas
 pub mod LineLemmas
 pub mod MatchesLemmas
