@@ -72,8 +72,8 @@ pub fn command<R: Threads + Wait + Sync, F: Files, W: Write + Send + Drop, E: Wr
     ensures refused { result.0 ≡ 1 → (result.1 ≡ out) ⊎ AskFor (texts words.now) (F.holds files.old)
         (λ request. IsOfRun (F.holds files.old) request (W.contents out) (W.contents result.1)) }
     ensures words { result.0 ≡ 2 → (result.1 ≡ out) × (F.holds files.new ≡ F.holds files.old) }
-    // With 2 the words ask for nothing, or their outputs are other files of theirs. With 0 or 3 they ask for help, if
-    // they are no request.
+    // Words that ask for neither a request nor help end it with 2, or with 1 where memory was refused. With 2 they ask
+    // for nothing, or for a request whose outputs may be other files of it.
     ensures asked { (status : Status) → result.0 ≡ code_of status → IsAsked (texts words.now) status }
     // With 1 no file is changed, but for an output that was written before memory was refused: it holds what the words
     // ask for. With 3 no file is changed but those that they name for output.
