@@ -22,4 +22,5 @@ pub mod Done
 pub mod Outputs
 pub mod Audits
 pub mod Explanations
+pub mod Inspections
 pub mod Lists

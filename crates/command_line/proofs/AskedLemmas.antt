@@ -2,12 +2,13 @@
 use Rattle.std.proofs.Common.{◌≡◌, ◌≢◌, ℕ, List, Option, Some, None, MatchOption, IsSomeAnd, codes}
 use Rattle.std.proofs.Common.{slice_index, ap, arith, subst, sym}
 use Rattle.clap.specs.Walk.{Row, Text}
-use Rattle.command_line.specs.Requests.{Holds, HoldsAudit, HoldsBuild, HoldsBuilding, HoldsExplain, HoldsLazy}
-use Rattle.command_line.specs.Requests.{HoldsRenew, HoldsReplay, HoldsRun}
+use Rattle.command_line.specs.Requests.{Holds, HoldsAudit, HoldsBuild, HoldsBuilding, HoldsExplain}
+use Rattle.command_line.specs.Requests.{HoldsInspect, HoldsLazy, HoldsRenew, HoldsReplay, HoldsRun}
 use Rattle.command_line.specs.declared.request.Audit.{Audit}
 use Rattle.command_line.specs.declared.request.Build.{Build}
 use Rattle.command_line.specs.declared.request.Building.{Building}
 use Rattle.command_line.specs.declared.request.Explain.{Explain}
+use Rattle.command_line.specs.declared.request.Inspect.{Inspect}
 use Rattle.command_line.specs.declared.request.Lazy.{Lazy}
 use Rattle.command_line.specs.declared.request.Renew.{Renew}
 use Rattle.command_line.specs.declared.request.Replay.{Replay}
@@ -29,6 +30,7 @@ no_audit : (found : List Row) (request : Request) → ((words : Audit) → Holds
 no_audit found (requests.Audit words) none h = none words h.1
 no_audit found (requests.Build words) none h = differ 0 (codes "audit") (codes "build") (λ e. omega (arith, e)) h.0
 no_audit found (requests.Explain words) none h = differ 0 (codes "audit") (codes "explain") (λ e. omega (arith, e)) h.0
+no_audit found (requests.Inspect words) none h = differ 0 (codes "audit") (codes "inspect") (λ e. omega (arith, e)) h.0
 no_audit found (requests.Lazy words) none h = differ 0 (codes "audit") (codes "lazy") (λ e. omega (arith, e)) h.0
 no_audit found (requests.Renew words) none h = differ 0 (codes "audit") (codes "renew") (λ e. omega (arith, e)) h.0
 no_audit found (requests.Replay words) none h = differ 0 (codes "audit") (codes "replay") (λ e. omega (arith, e)) h.0
@@ -50,6 +52,7 @@ no_build : (found : List Row) (request : Request) → ((words : Build) → Holds
 no_build found (requests.Audit words) none h = differ 0 (codes "build") (codes "audit") (λ e. omega (arith, e)) h.0
 no_build found (requests.Build words) none h = none words h.1
 no_build found (requests.Explain words) none h = differ 0 (codes "build") (codes "explain") (λ e. omega (arith, e)) h.0
+no_build found (requests.Inspect words) none h = differ 0 (codes "build") (codes "inspect") (λ e. omega (arith, e)) h.0
 no_build found (requests.Lazy words) none h = differ 0 (codes "build") (codes "lazy") (λ e. omega (arith, e)) h.0
 no_build found (requests.Renew words) none h = differ 0 (codes "build") (codes "renew") (λ e. omega (arith, e)) h.0
 no_build found (requests.Replay words) none h = differ 0 (codes "build") (codes "replay") (λ e. omega (arith, e)) h.0
@@ -71,6 +74,7 @@ no_explain : (found : List Row) (request : Request) → ((words : Explain) → H
 no_explain found (requests.Audit words) none h = differ 0 (codes "explain") (codes "audit") (λ e. omega (arith, e)) h.0
 no_explain found (requests.Build words) none h = differ 0 (codes "explain") (codes "build") (λ e. omega (arith, e)) h.0
 no_explain found (requests.Explain words) none h = none words h.1
+no_explain found (requests.Inspect words) none h = differ 0 (codes "explain") (codes "inspect") (λ e. omega (arith, e)) h.0
 no_explain found (requests.Lazy words) none h = differ 0 (codes "explain") (codes "lazy") (λ e. omega (arith, e)) h.0
 no_explain found (requests.Renew words) none h = differ 0 (codes "explain") (codes "renew") (λ e. omega (arith, e)) h.0
 no_explain found (requests.Replay words) none h = differ 0 (codes "explain") (codes "replay") (λ e. omega (arith, e)) h.0
@@ -87,11 +91,34 @@ is_explain name found None is none (Some request) same = absurd (let clash : Som
 is_explain name found None is none None same =
     λ request h. no_explain found request none (subst (λ (n : Text). Holds n found request) is h)
 
+no_inspect : (found : List Row) (request : Request) → ((words : Inspect) → HoldsInspect found words → ⊥)
+    → Holds (codes "inspect") found request → ⊥
+no_inspect found (requests.Audit words) none h = differ 0 (codes "inspect") (codes "audit") (λ e. omega (arith, e)) h.0
+no_inspect found (requests.Build words) none h = differ 0 (codes "inspect") (codes "build") (λ e. omega (arith, e)) h.0
+no_inspect found (requests.Explain words) none h = differ 0 (codes "inspect") (codes "explain") (λ e. omega (arith, e)) h.0
+no_inspect found (requests.Inspect words) none h = none words h.1
+no_inspect found (requests.Lazy words) none h = differ 0 (codes "inspect") (codes "lazy") (λ e. omega (arith, e)) h.0
+no_inspect found (requests.Renew words) none h = differ 0 (codes "inspect") (codes "renew") (λ e. omega (arith, e)) h.0
+no_inspect found (requests.Replay words) none h = differ 0 (codes "inspect") (codes "replay") (λ e. omega (arith, e)) h.0
+no_inspect found (requests.Report words) none h = differ 0 (codes "inspect") (codes "report") (λ e. omega (arith, e)) h.0
+no_inspect found (requests.Run words) none h = differ 0 (codes "inspect") (codes "run") (λ e. omega (arith, e)) h.0
+
+pub is_inspect : (name : Text) (found : List Row) (words : Option Inspect) → name ≡ codes "inspect"
+    → IsWhatHolds (HoldsInspect found) words → (asked : Option Request) → IsMapped requests.Inspect words asked
+    → IsWhatHolds (Holds name found) asked
+is_inspect name found (Some words) is holds (Some request) same =
+    subst (λ (r : Request). Holds name found r) (sym same) (is, holds)
+is_inspect name found (Some words) is holds None same = absurd same
+is_inspect name found None is none (Some request) same = absurd (let clash : Some request ≡ None = same in cc)
+is_inspect name found None is none None same =
+    λ request h. no_inspect found request none (subst (λ (n : Text). Holds n found request) is h)
+
 no_lazy : (found : List Row) (request : Request) → ((words : Lazy) → HoldsLazy found words → ⊥)
     → Holds (codes "lazy") found request → ⊥
 no_lazy found (requests.Audit words) none h = differ 0 (codes "lazy") (codes "audit") (λ e. omega (arith, e)) h.0
 no_lazy found (requests.Build words) none h = differ 0 (codes "lazy") (codes "build") (λ e. omega (arith, e)) h.0
 no_lazy found (requests.Explain words) none h = differ 0 (codes "lazy") (codes "explain") (λ e. omega (arith, e)) h.0
+no_lazy found (requests.Inspect words) none h = differ 0 (codes "lazy") (codes "inspect") (λ e. omega (arith, e)) h.0
 no_lazy found (requests.Lazy words) none h = none words h.1
 no_lazy found (requests.Renew words) none h = differ 0 (codes "lazy") (codes "renew") (λ e. omega (arith, e)) h.0
 no_lazy found (requests.Replay words) none h = differ 0 (codes "lazy") (codes "replay") (λ e. omega (arith, e)) h.0
@@ -113,6 +140,7 @@ no_renew : (found : List Row) (request : Request) → ((words : Renew) → Holds
 no_renew found (requests.Audit words) none h = differ 0 (codes "renew") (codes "audit") (λ e. omega (arith, e)) h.0
 no_renew found (requests.Build words) none h = differ 0 (codes "renew") (codes "build") (λ e. omega (arith, e)) h.0
 no_renew found (requests.Explain words) none h = differ 0 (codes "renew") (codes "explain") (λ e. omega (arith, e)) h.0
+no_renew found (requests.Inspect words) none h = differ 0 (codes "renew") (codes "inspect") (λ e. omega (arith, e)) h.0
 no_renew found (requests.Lazy words) none h = differ 0 (codes "renew") (codes "lazy") (λ e. omega (arith, e)) h.0
 no_renew found (requests.Renew words) none h = none words h.1
 no_renew found (requests.Replay words) none h = differ 2 (codes "renew") (codes "replay") (λ e. omega (arith, e)) h.0
@@ -134,6 +162,7 @@ no_replay : (found : List Row) (request : Request) → ((words : Replay) → Hol
 no_replay found (requests.Audit words) none h = differ 0 (codes "replay") (codes "audit") (λ e. omega (arith, e)) h.0
 no_replay found (requests.Build words) none h = differ 0 (codes "replay") (codes "build") (λ e. omega (arith, e)) h.0
 no_replay found (requests.Explain words) none h = differ 0 (codes "replay") (codes "explain") (λ e. omega (arith, e)) h.0
+no_replay found (requests.Inspect words) none h = differ 0 (codes "replay") (codes "inspect") (λ e. omega (arith, e)) h.0
 no_replay found (requests.Lazy words) none h = differ 0 (codes "replay") (codes "lazy") (λ e. omega (arith, e)) h.0
 no_replay found (requests.Renew words) none h = differ 2 (codes "replay") (codes "renew") (λ e. omega (arith, e)) h.0
 no_replay found (requests.Replay words) none h = none words h.1
@@ -155,6 +184,7 @@ no_report : (found : List Row) (request : Request) → ((words : Building) → H
 no_report found (requests.Audit words) none h = differ 0 (codes "report") (codes "audit") (λ e. omega (arith, e)) h.0
 no_report found (requests.Build words) none h = differ 0 (codes "report") (codes "build") (λ e. omega (arith, e)) h.0
 no_report found (requests.Explain words) none h = differ 0 (codes "report") (codes "explain") (λ e. omega (arith, e)) h.0
+no_report found (requests.Inspect words) none h = differ 0 (codes "report") (codes "inspect") (λ e. omega (arith, e)) h.0
 no_report found (requests.Lazy words) none h = differ 0 (codes "report") (codes "lazy") (λ e. omega (arith, e)) h.0
 no_report found (requests.Renew words) none h = differ 2 (codes "report") (codes "renew") (λ e. omega (arith, e)) h.0
 no_report found (requests.Replay words) none h = differ 3 (codes "report") (codes "replay") (λ e. omega (arith, e)) h.0
@@ -176,6 +206,7 @@ no_run : (found : List Row) (request : Request) → ((words : Run) → HoldsRun 
 no_run found (requests.Audit words) none h = differ 0 (codes "run") (codes "audit") (λ e. omega (arith, e)) h.0
 no_run found (requests.Build words) none h = differ 0 (codes "run") (codes "build") (λ e. omega (arith, e)) h.0
 no_run found (requests.Explain words) none h = differ 0 (codes "run") (codes "explain") (λ e. omega (arith, e)) h.0
+no_run found (requests.Inspect words) none h = differ 0 (codes "run") (codes "inspect") (λ e. omega (arith, e)) h.0
 no_run found (requests.Lazy words) none h = differ 0 (codes "run") (codes "lazy") (λ e. omega (arith, e)) h.0
 no_run found (requests.Renew words) none h = differ 1 (codes "run") (codes "renew") (λ e. omega (arith, e)) h.0
 no_run found (requests.Replay words) none h = differ 1 (codes "run") (codes "replay") (λ e. omega (arith, e)) h.0
@@ -194,13 +225,15 @@ is_run name found None is none None same =
 
 -- a name of no command asks for nothing
 pub no_command : (name : Text) (found : List Row) (request : Request) → name ≢ codes "audit" → name ≢ codes "build"
-    → name ≢ codes "explain" → name ≢ codes "lazy" → name ≢ codes "renew" → name ≢ codes "replay"
+    → name ≢ codes "explain" → name ≢ codes "inspect"
+    → name ≢ codes "lazy" → name ≢ codes "renew" → name ≢ codes "replay"
     → name ≢ codes "report" → name ≢ codes "run" → Holds name found request → ⊥
-no_command name found (requests.Audit words) audit build explain lazy renew replay report run h = audit h.0
-no_command name found (requests.Build words) audit build explain lazy renew replay report run h = build h.0
-no_command name found (requests.Explain words) audit build explain lazy renew replay report run h = explain h.0
-no_command name found (requests.Lazy words) audit build explain lazy renew replay report run h = lazy h.0
-no_command name found (requests.Renew words) audit build explain lazy renew replay report run h = renew h.0
-no_command name found (requests.Replay words) audit build explain lazy renew replay report run h = replay h.0
-no_command name found (requests.Report words) audit build explain lazy renew replay report run h = report h.0
-no_command name found (requests.Run words) audit build explain lazy renew replay report run h = run h.0
+no_command name found (requests.Audit words) audit build explain inspect lazy renew replay report run h = audit h.0
+no_command name found (requests.Build words) audit build explain inspect lazy renew replay report run h = build h.0
+no_command name found (requests.Explain words) audit build explain inspect lazy renew replay report run h = explain h.0
+no_command name found (requests.Inspect words) audit build explain inspect lazy renew replay report run h = inspect h.0
+no_command name found (requests.Lazy words) audit build explain inspect lazy renew replay report run h = lazy h.0
+no_command name found (requests.Renew words) audit build explain inspect lazy renew replay report run h = renew h.0
+no_command name found (requests.Replay words) audit build explain inspect lazy renew replay report run h = replay h.0
+no_command name found (requests.Report words) audit build explain inspect lazy renew replay report run h = report h.0
+no_command name found (requests.Run words) audit build explain inspect lazy renew replay report run h = run h.0

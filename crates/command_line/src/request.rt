@@ -11,6 +11,8 @@ pub enum Request<'a> {
     Build(Build<'a>),
     /// `explain`: tell all that stands against a class.
     Explain(Explain<'a>),
+    /// `inspect`: say what an image holds.
+    Inspect(Inspect<'a>),
     /// `lazy`: run class files by turns.
     Lazy(Lazy<'a>),
     /// `renew`: write an image again, in the version that is written today.
@@ -97,6 +99,15 @@ pub struct Renew<'a> {
     pub verbose: bool,
 }
 
+/// What the words of `inspect` ask for.
+#[derive(Drop)]
+pub struct Inspect<'a> {
+    /// The name of the image's file.
+    pub image: &'a str,
+    /// Whether a refusal is explained.
+    pub verbose: bool,
+}
+
 /// What the words of `run` ask for.
 #[derive(Drop)]
 pub struct Run<'a> {
@@ -138,6 +149,7 @@ impl<'a> Request<'a> {
             Request::Audit(words) => words.verbose,
             Request::Build(words) => words.building.verbose,
             Request::Explain(words) => words.building.verbose,
+            Request::Inspect(words) => words.verbose,
             Request::Lazy(words) => words.verbose,
             Request::Renew(words) => words.verbose,
             Request::Replay(words) => words.verbose,
@@ -156,7 +168,7 @@ impl<'a> Request<'a> {
             Request::Explain(words) => words.building.files.as_slice(),
             Request::Lazy(words) => words.files.as_slice(),
             Request::Report(words) => words.files.as_slice(),
-            Request::Renew(_) | Request::Replay(_) | Request::Run(_) => &[],
+            Request::Inspect(_) | Request::Renew(_) | Request::Replay(_) | Request::Run(_) => &[],
         }
     }
 
@@ -188,6 +200,7 @@ impl<'a> Request<'a> {
                 verbose: words.verbose,
             }),
             Request::Report(words) => Request::Report(words.with_files(files)),
+            Request::Inspect(words) => Request::Inspect(words),
             Request::Renew(words) => Request::Renew(words),
             Request::Replay(words) => Request::Replay(words),
             Request::Run(words) => Request::Run(words),

@@ -1,0 +1,112 @@
+-- The greatest of sizes, and the places of the greatest.
+use Rattle.std.proofs.Common.{◌≡◌, ◌⊎◌, ◌∙◌, ℕ, zero, suc, ◌+◌, ◌-◌, ◌<◌, ◌≤◌, List, [], ◌∷◌, ◌++◌, length, set}
+use Rattle.std.proofs.Common.{Option, Some, None, MatchOption, get_or, inl, inr, refl, sym, ap, subst, arith}
+use Rattle.std.specs.List.{All}
+use Rattle.std.proofs.lemmas.Bool.{cases_lt}
+use Rattle.std.proofs.lemmas.List.{get_or_past, length-set}
+use Rattle.inspection.specs.Largest.{AreLargest, IsGreatest, size_at}
+use Rattle.inspection.specs.steps.Best.{IsBest, IsFirstOf}
+
+-- ---- the greatest
+
+-- before the first size
+pub best_of_none : (sizes : List ℕ) → IsBest sizes 0 None 0
+best_of_none sizes = record { below = λ d low. absurd (omega (arith, low)); best_is = refl }
+
+split_last : (P : ℕ → Type 0) (i : ℕ) → ((d : ℕ) → d < i → P d) → P i → (d : ℕ) → d < i + 1 → P d
+split_last P i below here d low = elim (cases_lt d i) [
+  | inl less ↦ below d less
+  | inr more ↦ let same : i ≡ d = omega (arith, low, more) in subst P same here
+]
+
+-- the next size is greater
+pub best_is_next : (sizes : List ℕ) (i : ℕ) (best : Option ℕ) (most : ℕ) → IsBest sizes i best most
+    → most < size_at sizes i → IsBest sizes (i + 1) (Some i) (size_at sizes i)
+best_is_next sizes i best most is more = record {
+  below = split_last (λ d. size_at sizes d ≤ size_at sizes i) i
+      (λ d low. omega (arith, is.below d low, more)) (omega arith);
+  best_is = record {
+    low = omega arith;
+    is = refl;
+    some = omega (arith, more);
+    before = λ d low. omega (arith, is.below d low, more);
+  };
+}
+
+still_first : (sizes : List ℕ) (i : ℕ) (best : Option ℕ) (most : ℕ)
+    → MatchOption best (most ≡ 0) (IsFirstOf sizes i most) → MatchOption best (most ≡ 0) (IsFirstOf sizes (i + 1) most)
+still_first sizes i None most is = is
+still_first sizes i (Some c) most is = record {
+  low = omega (arith, is.low);
+  is = is.is;
+  some = is.some;
+  before = is.before;
+}
+
+-- and where it is not
+pub best_stays : (sizes : List ℕ) (i : ℕ) (best : Option ℕ) (most : ℕ) → IsBest sizes i best most
+    → size_at sizes i ≤ most → IsBest sizes (i + 1) best most
+best_stays sizes i best most is low = record {
+  below = split_last (λ d. size_at sizes d ≤ most) i is.below low;
+  best_is = still_first sizes i best most is.best_is;
+}
+
+all_below : (sizes : List ℕ) (most : ℕ) → ((d : ℕ) → d < length sizes → size_at sizes d ≤ most)
+    → (d : ℕ) → size_at sizes d ≤ most
+all_below sizes most below d = elim (cases_lt d (length sizes)) [
+  | inl low ↦ below d low
+  | inr past ↦ let none : size_at sizes d ≡ 0 = get_or_past sizes d 0 past in omega (arith, none)
+]
+
+-- the best of all sizes is the greatest
+pub greatest_is_best : (sizes : List ℕ) (i : ℕ) (best : Option ℕ) (most : ℕ) → i ≡ length sizes
+    → IsBest sizes i best most → MatchOption best ((d : ℕ) → size_at sizes d ≡ 0) (IsGreatest sizes)
+greatest_is_best sizes i None most same is = λ d.
+    let low = all_below sizes most (λ e less. is.below e (omega (arith, less, same))) d in
+    let zero_most : most ≡ 0 = is.best_is in
+    omega (arith, low, zero_most)
+greatest_is_best sizes i (Some c) most same is =
+    let first = is.best_is in
+    let at : size_at sizes c ≡ most = first.is in record {
+      some = omega (arith, first.some, at);
+      before = λ d less. omega (arith, first.before d less, at);
+      all = λ d. omega (arith, all_below sizes most (λ e less. is.below e (omega (arith, less, same))) d, at);
+    }
+
+-- a size above 0 is one of the sizes
+pub greatest_within : (sizes : List ℕ) (c : ℕ) → IsGreatest sizes c → c < length sizes
+greatest_within sizes c is = elim (cases_lt c (length sizes)) [
+  | inl low ↦ low
+  | inr past ↦ let none : size_at sizes c ≡ 0 = get_or_past sizes c 0 past in absurd (omega (arith, none, is.some))
+]
+
+-- ---- the places of the greatest
+
+-- where all sizes are 0 there is none
+pub none_of_zeros : (most : ℕ) (sizes : List ℕ) → ((d : ℕ) → size_at sizes d ≡ 0) → AreLargest most sizes []
+none_of_zeros zero sizes zeros = refl
+none_of_zeros (suc most) sizes zeros = inl (zeros, refl)
+
+-- the greatest, and then the others
+pub largest_more : (left : ℕ) (sizes : List ℕ) (c : ℕ) (rest : List ℕ) → 0 < left → IsGreatest sizes c
+    → AreLargest (left - 1) (set sizes c 0) rest → AreLargest left sizes (c ∷ rest)
+largest_more zero sizes c rest some is others = absurd (omega (arith, some))
+largest_more (suc left) sizes c rest some is others =
+    let same : suc left - 1 ≡ left = omega arith in
+    inr (c, rest, is, subst (λ (n : ℕ). AreLargest n (set sizes c 0) rest) same others, refl)
+
+-- each is one of the sizes
+pub largest_within : (most : ℕ) (sizes places : List ℕ) → AreLargest most sizes places
+    → All (λ (c : ℕ). c < length sizes) places
+largest_within zero sizes places are = subst (λ (l : List ℕ). All (λ (c : ℕ). c < length sizes) l) (sym are) tt
+largest_within (suc most) sizes places are = elim are [
+  | inl none ↦ subst (λ (l : List ℕ). All (λ (c : ℕ). c < length sizes) l) (sym none.1) tt
+  | inr some ↦
+      let c = some.0 in
+      let rest = some.1 in
+      let others = largest_within most (set sizes c 0) rest some.3 in
+      subst (λ (l : List ℕ). All (λ (c : ℕ). c < length sizes) l) (sym some.4) (
+        greatest_within sizes c some.2,
+        subst (λ (n : ℕ). All (λ (c : ℕ). c < n) rest) (length-set sizes c 0) others,
+      )
+]

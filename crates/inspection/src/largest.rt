@@ -1,0 +1,79 @@
+//! The classes with the most bytes.
+
+ghost use Rattle.std.specs.Prelude.{◌≡◌, ◌++◌, ◌<◌, ℕ, MatchOption, IfOk, OnOk, length};
+ghost use Rattle.std.specs.List.{flat_map, All};
+ghost use Rattle.std.specs.String.{string_bytes};
+ghost use Rattle.image_writer.specs.ImageTexts.{region_sizes};
+ghost use Rattle.inspection.specs.Largest.{AreLargest, IsGreatest, size_at};
+ghost use Rattle.inspection.specs.Texts.{largest_line};
+
+use object_graph::Image;
+use report::class_text;
+use std::alloc::{AllocError, Global};
+
+/// The place of the first of the greatest sizes, if one is above 0.
+fn greatest(sizes: &[usize]) -> Option<usize>
+    ensures { MatchOption result ((d : ℕ) → size_at sizes.now d ≡ 0) (IsGreatest sizes.now) }
+{
+    let mut best = None;
+    let mut most = 0;
+    for place in 0..sizes.len() {
+        let size = sizes[place];
+        if size > most {
+            best = Some(place);
+            most = size;
+        }
+    }
+    best
+}
+
+/// The places of the greatest sizes above 0, at most `most`: the greatest first, and of those that are equal the first.
+pub(crate) fn largest(alloc: Global, sizes: &[usize], most: usize) -> Result<Vec<usize>, AllocError>
+    ensures { IfOk result (λ places. AreLargest most sizes.now places.items) }
+{
+    let mut left = Vec::from_slice(alloc, sizes)?;
+    let mut places = Vec::new(alloc);
+    for _ in 0..most {
+        let Some(place) = greatest(&left) else {
+            return Ok(places);
+        };
+        left[place] = 0;
+        places.push(place)?;
+    }
+    Ok(places)
+}
+
+/// Adds the line of a class, where these are the sizes of regions.
+fn add_line(
+    alloc: Global,
+    text: &mut String,
+    image: &Image,
+    sizes: &[usize],
+    class: usize,
+) -> Result<(), AllocError>
+    requires sizes { sizes.now ≡ region_sizes image.now }
+    requires class { class < length sizes.now }
+    ensures { OnOk result (string_bytes text.new ≡ string_bytes text.old ++ largest_line image.now class) }
+{
+    let name = class_text(alloc, image.program().family(), class as u32)?;
+    let size = sizes[class];
+    writeln!(text, "largest {size} {name}")
+}
+
+/// The lines of classes, where these are the sizes of regions.
+pub(crate) fn largest_lines(
+    alloc: Global,
+    image: &Image,
+    sizes: &[usize],
+    classes: &[usize],
+) -> Result<String, AllocError>
+    requires sizes { sizes.now ≡ region_sizes image.now }
+    requires classes { All (λ (class : ℕ). class < length sizes.now) classes.now }
+    ensures { IfOk result (λ text. string_bytes text ≡ flat_map (largest_line image.now) classes.now) }
+{
+    let mut text = String::new(alloc);
+    for class in classes {
+        add_line(alloc, &mut text, image, sizes, *class)?;
+    }
+    Ok(text)
+}
