@@ -5,7 +5,8 @@ ghost use Rattle.clap.specs.Simple.{app_of};
 ghost use Rattle.clap.specs.Walk.{first_of, rows_of};
 ghost use Rattle.command_line.specs.CommandLine.{preinit};
 ghost use Rattle.command_line.specs.Requests.{Holds, HoldsAudit, HoldsBits, HoldsBuild, HoldsBuilding, HoldsExplain};
-ghost use Rattle.command_line.specs.Requests.{HoldsFlag, HoldsInspect, HoldsLazy, HoldsNumber, HoldsRenew, HoldsReplay, HoldsRun};
+ghost use Rattle.command_line.specs.Requests.{HoldsFlag, HoldsInspect, HoldsLazy, HoldsNumber, HoldsRenew};
+ghost use Rattle.command_line.specs.Requests.{HoldsReplay, HoldsRun};
 ghost use Rattle.command_line.specs.Requests.{IsFaultOf, IsLine, text_in, texts, values_of};
 ghost use Rattle.command_line.specs.steps.Faults.{AskedByMatches, IsWhatHolds, SaysKind};
 

@@ -1,8 +1,10 @@
 //! How many bytes the regions of an image take in its text.
 
-ghost use Rattle.std.specs.Prelude.{◌≡◌, IfOk, length, map};
+ghost use Rattle.std.specs.Prelude.{◌≡◌, [], IfOk, OnOk, map, option_map};
 ghost use Rattle.std.specs.List.{range_with_len};
-ghost use Rattle.image_writer.specs.ImageTexts.{region_size, region_sizes};
+ghost use Rattle.region_shape.specs.Regions.{environment_of};
+ghost use Rattle.image_format.specs.Told.{told_region};
+ghost use Rattle.image_writer.specs.ImageTexts.{held_text, region_size, region_sizes};
 ghost use Rattle.image_writer.specs.steps.Sizes.{HasFiles};
 
 use crate::files::show_files;
@@ -10,7 +12,20 @@ use crate::objects::push_region;
 use object_graph::Image;
 use std::alloc::{AllocError, Global};
 
-/// How many bytes the region of a class takes, which are written to a buffer.
+/// Writes the region of a class to what is empty, if there is one.
+fn push_held(alloc: Global, out: &mut Vec<u8>, image: &Image, class: u32) -> Result<(), AllocError>
+    requires empty { out.old.items ≡ [] }
+    requires files { HasFiles image.now.program }
+    ensures { OnOk result (out.new.items ≡ held_text image.now.program.family
+        (option_map (told_region image.now.program class) (environment_of image.now.regions class))) }
+{
+    match image.region(class) {
+        Some(region) => push_region(alloc, out, image, class, region),
+        None => Ok(()),
+    }
+}
+
+/// How many bytes the region of a class takes, which is written to a buffer.
 fn size_of_region(
     alloc: Global,
     buffer: &mut Vec<u8>,
@@ -21,9 +36,7 @@ fn size_of_region(
     ensures { IfOk result (λ size. size ≡ region_size image.now class) }
 {
     buffer.clear();
-    if let Some(region) = image.region(class) {
-        push_region(alloc, buffer, image, class, region)?;
-    }
+    push_held(alloc, buffer, image, class)?;
     Ok(buffer.len())
 }
 

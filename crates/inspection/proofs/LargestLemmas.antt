@@ -5,13 +5,17 @@ use Rattle.std.specs.List.{All}
 use Rattle.std.proofs.lemmas.Bool.{cases_lt}
 use Rattle.std.proofs.lemmas.List.{get_or_past, length-set}
 use Rattle.inspection.specs.Largest.{AreLargest, IsGreatest, size_at}
-use Rattle.inspection.specs.steps.Best.{IsBest, IsFirstOf}
+use Rattle.inspection.specs.declared.largest.Best.{Best}
+use Rattle.inspection.specs.steps.Best.{IsBest, IsBestAt}
 
 -- ---- the greatest
 
 -- before the first size
-pub best_of_none : (sizes : List ℕ) → IsBest sizes 0 None 0
-best_of_none sizes = record { below = λ d low. absurd (omega (arith, low)); best_is = refl }
+pub best_of_none : (sizes : List ℕ) (best : Best) → best ≡ record { place = None; size = 0 } → IsBest sizes 0 best
+best_of_none sizes best is = subst (IsBest sizes 0) (sym is) (record {
+  below = λ d low. absurd (omega (arith, low));
+  is = refl;
+})
 
 split_last : (P : ℕ → Type 0) (i : ℕ) → ((d : ℕ) → d < i → P d) → P i → (d : ℕ) → d < i + 1 → P d
 split_last P i below here d low = elim (cases_lt d i) [
@@ -20,23 +24,22 @@ split_last P i below here d low = elim (cases_lt d i) [
 ]
 
 -- the next size is greater
-pub best_is_next : (sizes : List ℕ) (i : ℕ) (best : Option ℕ) (most : ℕ) → IsBest sizes i best most
-    → most < size_at sizes i → IsBest sizes (i + 1) (Some i) (size_at sizes i)
-best_is_next sizes i best most is more = record {
-  below = split_last (λ d. size_at sizes d ≤ size_at sizes i) i
-      (λ d low. omega (arith, is.below d low, more)) (omega arith);
-  best_is = record {
+pub best_is_next : (sizes : List ℕ) (i size : ℕ) (best : Best) → size ≡ size_at sizes i → IsBest sizes i best
+    → best.size < size → IsBest sizes (i + 1) (record { place = Some i; size = size })
+best_is_next sizes i size best at is more = record {
+  below = split_last (λ d. size_at sizes d ≤ size) i (λ d low. omega (arith, is.below d low, more)) (omega (arith, at));
+  is = record {
     low = omega arith;
-    is = refl;
+    is = sym at;
     some = omega (arith, more);
     before = λ d low. omega (arith, is.below d low, more);
   };
 }
 
-still_first : (sizes : List ℕ) (i : ℕ) (best : Option ℕ) (most : ℕ)
-    → MatchOption best (most ≡ 0) (IsFirstOf sizes i most) → MatchOption best (most ≡ 0) (IsFirstOf sizes (i + 1) most)
-still_first sizes i None most is = is
-still_first sizes i (Some c) most is = record {
+still_first : (sizes : List ℕ) (i most : ℕ) (place : Option ℕ) → IsBestAt sizes i most place
+    → IsBestAt sizes (i + 1) most place
+still_first sizes i most None is = is
+still_first sizes i most (Some c) is = record {
   low = omega (arith, is.low);
   is = is.is;
   some = is.some;
@@ -44,11 +47,11 @@ still_first sizes i (Some c) most is = record {
 }
 
 -- and where it is not
-pub best_stays : (sizes : List ℕ) (i : ℕ) (best : Option ℕ) (most : ℕ) → IsBest sizes i best most
-    → size_at sizes i ≤ most → IsBest sizes (i + 1) best most
-best_stays sizes i best most is low = record {
-  below = split_last (λ d. size_at sizes d ≤ most) i is.below low;
-  best_is = still_first sizes i best most is.best_is;
+pub best_stays : (sizes : List ℕ) (i size : ℕ) (best : Best) → size ≡ size_at sizes i → IsBest sizes i best
+    → size ≤ best.size → IsBest sizes (i + 1) best
+best_stays sizes i size best at is low = record {
+  below = split_last (λ d. size_at sizes d ≤ best.size) i is.below (omega (arith, at, low));
+  is = still_first sizes i best.size best.place is.is;
 }
 
 all_below : (sizes : List ℕ) (most : ℕ) → ((d : ℕ) → d < length sizes → size_at sizes d ≤ most)
@@ -58,20 +61,23 @@ all_below sizes most below d = elim (cases_lt d (length sizes)) [
   | inr past ↦ let none : size_at sizes d ≡ 0 = get_or_past sizes d 0 past in omega (arith, none)
 ]
 
--- the best of all sizes is the greatest
-pub greatest_is_best : (sizes : List ℕ) (i : ℕ) (best : Option ℕ) (most : ℕ) → i ≡ length sizes
-    → IsBest sizes i best most → MatchOption best ((d : ℕ) → size_at sizes d ≡ 0) (IsGreatest sizes)
-greatest_is_best sizes i None most same is = λ d.
-    let low = all_below sizes most (λ e less. is.below e (omega (arith, less, same))) d in
-    let zero_most : most ≡ 0 = is.best_is in
-    omega (arith, low, zero_most)
-greatest_is_best sizes i (Some c) most same is =
-    let first = is.best_is in
-    let at : size_at sizes c ≡ most = first.is in record {
-      some = omega (arith, first.some, at);
-      before = λ d less. omega (arith, first.before d less, at);
-      all = λ d. omega (arith, all_below sizes most (λ e less. is.below e (omega (arith, less, same))) d, at);
+greatest_at : (sizes : List ℕ) (i most : ℕ) (place : Option ℕ) → ((d : ℕ) → size_at sizes d ≤ most)
+    → IsBestAt sizes i most place → MatchOption place ((d : ℕ) → size_at sizes d ≡ 0) (IsGreatest sizes)
+greatest_at sizes i most None low is = λ d. let none : most ≡ 0 = is in omega (arith, low d, none)
+greatest_at sizes i most (Some c) low is =
+    let at : size_at sizes c ≡ most = is.is in
+    record {
+      some = omega (arith, is.some, at);
+      before = λ d less. omega (arith, is.before d less, at);
+      all = λ d. omega (arith, low d, at);
     }
+
+-- the best of all sizes is the greatest
+pub greatest_is_best : (sizes : List ℕ) (i : ℕ) (best : Best) → length sizes ≤ i → IsBest sizes i best
+    → MatchOption best.place ((d : ℕ) → size_at sizes d ≡ 0) (IsGreatest sizes)
+greatest_is_best sizes i best past is =
+    greatest_at sizes i best.size best.place
+    (all_below sizes best.size (λ d low. is.below d (omega (arith, low, past)))) is.is
 
 -- a size above 0 is one of the sizes
 pub greatest_within : (sizes : List ℕ) (c : ℕ) → IsGreatest sizes c → c < length sizes

@@ -17,4 +17,5 @@ abbrev pub AreLargest : ℕ → List ℕ → List ℕ → Type 0
 AreLargest zero sizes places = places ≡ []
 AreLargest (suc most) sizes places =
     (((d : ℕ) → size_at sizes d ≡ 0) × (places ≡ []))
-    ⊎ ((c : ℕ) × (rest : List ℕ) × IsGreatest sizes c × AreLargest most (slice_set sizes c 0) rest × (places ≡ c ∷ rest))
+    ⊎ ((c : ℕ) × (rest : List ℕ) × IsGreatest sizes c × AreLargest most (slice_set sizes c 0) rest
+    × (places ≡ c ∷ rest))

@@ -27,7 +27,7 @@ digest_in bytes = drop (length bytes - 32) bytes
 -- how many of the classes below a number have a region
 abbrev pub built_below : ImageTables → ℕ → ℕ
 built_below I zero = 0
-built_below I (suc c) = if is_some (environment_of I.regions c) then built_below I c + 1 else built_below I c
+built_below I (suc c) = built_below I c + (if is_some (environment_of I.regions c) then 1 else 0)
 
 -- how many objects their regions hold
 abbrev pub objects_below : ImageTables → ℕ → ℕ
@@ -38,9 +38,9 @@ abbrev pub head_text : List ℕ → ImageTables → List ℕ
 head_text bytes I = codes "version " ++ (decimal (version_in bytes)
     ++ (codes "\ndigest " ++ (flat_map hex_of (digest_in bytes)
     ++ (codes "\nbytes " ++ (decimal (length bytes)
-    ++ (codes "\nclasses " ++ (decimal (length I.program.classes)
-    ++ (codes " built " ++ (decimal (built_below I (length I.program.classes))
-    ++ (codes " objects " ++ (decimal (objects_below I (length I.program.classes)) ++ codes "\n")))))))))))
+    ++ (codes "\nclasses " ++ (decimal (length I.program.family)
+    ++ (codes " built " ++ (decimal (built_below I (length I.program.family))
+    ++ (codes " objects " ++ (decimal (objects_below I (length I.program.family)) ++ codes "\n")))))))))))
 
 -- ---- classes
 
@@ -63,7 +63,8 @@ lines_below I (suc c) = lines_below I c ++ class_line I c
 
 abbrev pub largest_line : ImageTables → ℕ → List ℕ
 largest_line I c =
-    codes "largest " ++ (decimal (size_at (region_sizes I) c) ++ (codes " " ++ (class_text I.program.family c ++ codes "\n")))
+    codes "largest " ++ (decimal (size_at (region_sizes I) c)
+    ++ (codes " " ++ (class_text I.program.family c ++ codes "\n")))
 
 -- ---- all
 
@@ -73,4 +74,4 @@ pub record IsInspection (bytes : List ℕ) (I : ImageTables) (text : List ℕ) :
   pub largest : List ℕ
   pub are : AreLargest 10 (region_sizes I) largest
   pub is : text ≡ head_text bytes I
-      ++ (lines_below I (length I.program.classes) ++ flat_map (largest_line I) largest)
+      ++ (lines_below I (length I.program.family) ++ flat_map (largest_line I) largest)

@@ -1,12 +1,23 @@
 //! What is said of an image as a whole.
 
-ghost use Rattle.std.specs.Prelude.{◌≡◌, IfOk};
+ghost use Rattle.std.specs.Prelude.{◌≡◌, IfOk, if◌then◌else◌, is_some};
 ghost use Rattle.std.specs.String.{string_bytes};
+ghost use Rattle.region_shape.specs.Regions.{environment_of};
 ghost use Rattle.inspection.specs.Texts.{built_below, head_text, objects_below};
 
 use crate::digest::{digest_text, version_of};
 use object_graph::Image;
 use std::alloc::{AllocError, Global};
+
+/// 1 where a class has a region, and else 0.
+fn one_if_built(image: &Image, class: u32) -> u32
+    ensures { result ≡ if is_some (environment_of image.now.regions class) then 1 else 0 }
+{
+    match image.region(class) {
+        Some(_) => 1,
+        None => 0,
+    }
+}
 
 /// How many of the classes below a number have a region.
 fn built_below(image: &Image, count: u32) -> u32
@@ -14,9 +25,7 @@ fn built_below(image: &Image, count: u32) -> u32
 {
     let mut built = 0;
     for class in 0..count {
-        if image.region(class).is_some() {
-            built += 1;
-        }
+        built += one_if_built(image, class);
     }
     built
 }
@@ -39,7 +48,7 @@ pub(crate) fn head_text(alloc: Global, bytes: &[u8], image: &Image) -> Result<St
     let version = version_of(bytes);
     let digest = digest_text(alloc, bytes)?;
     let length = bytes.len();
-    let count = image.program().given_count();
+    let count = image.program().family().classes().len() as u32;
     let built = built_below(image, count);
     let objects = objects_below(image, count);
     format!(in alloc;

@@ -1,30 +1,50 @@
 //! The classes with the most bytes.
 
-ghost use Rattle.std.specs.Prelude.{◌≡◌, ◌++◌, ◌<◌, ℕ, MatchOption, IfOk, OnOk, length};
+ghost use Rattle.std.specs.Prelude.{◌≡◌, ◌++◌, ◌<◌, ℕ, List, ◌+◌, MatchOption, IfOk, OnOk, length};
 ghost use Rattle.std.specs.List.{flat_map, All};
 ghost use Rattle.std.specs.String.{string_bytes};
 ghost use Rattle.image_writer.specs.ImageTexts.{region_sizes};
 ghost use Rattle.inspection.specs.Largest.{AreLargest, IsGreatest, size_at};
 ghost use Rattle.inspection.specs.Texts.{largest_line};
+ghost use Rattle.inspection.specs.steps.Best.{IsBest};
 
 use object_graph::Image;
 use report::class_text;
 use std::alloc::{AllocError, Global};
 
+/// The greatest size so far, and its first place, if it is above 0.
+#[derive(Clone, Copy)]
+pub(crate) struct Best {
+    pub place: Option<usize>,
+    pub size: usize,
+}
+
+/// The greatest with one more size.
+fn better(best: Best, place: usize, size: usize) -> Best
+    ensures { (sizes : List ℕ) → size ≡ size_at sizes place → IsBest sizes place best
+        → IsBest sizes (place + 1) result }
+{
+    if size > best.size {
+        return Best {
+            place: Some(place),
+            size,
+        };
+    }
+    best
+}
+
 /// The place of the first of the greatest sizes, if one is above 0.
 fn greatest(sizes: &[usize]) -> Option<usize>
     ensures { MatchOption result ((d : ℕ) → size_at sizes.now d ≡ 0) (IsGreatest sizes.now) }
 {
-    let mut best = None;
-    let mut most = 0;
+    let mut best = Best {
+        place: None,
+        size: 0,
+    };
     for place in 0..sizes.len() {
-        let size = sizes[place];
-        if size > most {
-            best = Some(place);
-            most = size;
-        }
+        best = better(best, place, sizes[place]);
     }
-    best
+    best.place
 }
 
 /// The places of the greatest sizes above 0, at most `most`: the greatest first, and of those that are equal the first.

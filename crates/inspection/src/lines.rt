@@ -15,11 +15,13 @@ fn holding_text(alloc: Global, image: &Image, class: u32, size: usize) -> Result
     ensures { IfOk result
         (λ text. string_bytes text ≡ holding_text (environment_of image.now.regions class) size) }
 {
-    if image.region(class).is_none() {
-        return String::from_str(alloc, "run");
+    match image.region(class) {
+        Some(_) => {
+            let count = image.object_count(class);
+            format!(in alloc; "build objects {count} bytes {size}")
+        }
+        None => String::from_str(alloc, "run"),
     }
-    let count = image.object_count(class);
-    format!(in alloc; "build objects {count} bytes {size}")
 }
 
 /// Adds the line of a class whose region takes so many bytes.
@@ -45,10 +47,11 @@ pub(crate) fn class_lines(
     sizes: &[usize],
 ) -> Result<String, AllocError>
     requires { sizes.now ≡ region_sizes image.now }
-    ensures { IfOk result (λ text. string_bytes text ≡ lines_below image.now (length image.now.program.classes)) }
+    ensures { IfOk result (λ text. string_bytes text ≡ lines_below image.now (length image.now.program.family)) }
 {
     let mut text = String::new(alloc);
-    for class in 0..image.program().given_count() {
+    let classes = image.program().family().classes();
+    for class in 0..classes.len() as u32 {
         add_line(alloc, &mut text, image, class, sizes[class as usize])?;
     }
     Ok(text)
