@@ -1,12 +1,13 @@
 -- The greatest of sizes, and the places of the greatest.
 use Rattle.std.proofs.Common.{◌≡◌, ◌⊎◌, ◌∙◌, ℕ, zero, suc, ◌+◌, ◌-◌, ◌<◌, ◌≤◌, List, [], ◌∷◌, ◌++◌, length, set}
-use Rattle.std.proofs.Common.{Option, Some, None, MatchOption, get_or, inl, inr, refl, sym, ap, subst, arith}
+use Rattle.std.proofs.Common.{Option, Some, None, MatchOption, append_assoc, inl, inr, refl, sym, ap, subst, arith}
 use Rattle.std.specs.List.{All}
 use Rattle.std.proofs.lemmas.Bool.{cases_lt}
-use Rattle.std.proofs.lemmas.List.{get_or_past, length-set}
+use Rattle.std.proofs.lemmas.List.{append-nil, get_or_past, length-set}
 use Rattle.inspection.specs.Largest.{AreLargest, IsGreatest, size_at}
 use Rattle.inspection.specs.declared.largest.Best.{Best}
 use Rattle.inspection.specs.steps.Best.{IsBest, IsBestAt}
+use Rattle.inspection.specs.steps.Completes.{Completes}
 
 -- ---- the greatest
 
@@ -93,13 +94,44 @@ pub none_of_zeros : (most : ℕ) (sizes : List ℕ) → ((d : ℕ) → size_at s
 none_of_zeros zero sizes zeros = refl
 none_of_zeros (suc most) sizes zeros = inl (zeros, refl)
 
+pub completes_first : (most : ℕ) (sizes left places : List ℕ) → left ≡ sizes → places ≡ []
+    → Completes most sizes 0 left places
+completes_first most sizes left places same none rest are =
+    let all : most - 0 ≡ most = omega arith in
+    subst (λ (l : List ℕ). AreLargest most sizes (l ++ rest)) (sym none)
+    (subst (λ (l : List ℕ). AreLargest most l rest) same (subst (λ (n : ℕ). AreLargest n left rest) all are))
+
 -- the greatest, and then the others
-pub largest_more : (left : ℕ) (sizes : List ℕ) (c : ℕ) (rest : List ℕ) → 0 < left → IsGreatest sizes c
-    → AreLargest (left - 1) (set sizes c 0) rest → AreLargest left sizes (c ∷ rest)
-largest_more zero sizes c rest some is others = absurd (omega (arith, some))
-largest_more (suc left) sizes c rest some is others =
-    let same : suc left - 1 ≡ left = omega arith in
-    inr (c, rest, is, subst (λ (n : ℕ). AreLargest n (set sizes c 0) rest) same others, refl)
+largest_more : (count : ℕ) (left : List ℕ) (c : ℕ) (rest : List ℕ) → IsGreatest left c
+    → AreLargest count (set left c 0) rest → AreLargest (suc count) left (c ∷ rest)
+largest_more count left c rest is others = inr (c, rest, is, others, refl)
+
+pub completes_more : (most : ℕ) (sizes : List ℕ) (count : ℕ) (left places after found : List ℕ) (c : ℕ)
+    → count < most → IsGreatest left c → after ≡ set left c 0 → found ≡ places ++ c ∷ []
+    → Completes most sizes count left places → Completes most sizes (count + 1) after found
+completes_more most sizes count left places after found c low is without more so_far rest are =
+    let one : most - count ≡ suc (most - (count + 1)) = omega (arith, low) in
+    let others : AreLargest (most - (count + 1)) (set left c 0) rest =
+    subst (λ (l : List ℕ). AreLargest (most - (count + 1)) l rest) without are in
+    let all = largest_more (most - (count + 1)) left c rest is others in
+    let whole = so_far (c ∷ rest) (subst (λ (n : ℕ). AreLargest n left (c ∷ rest)) (sym one) all) in
+    subst (AreLargest most sizes)
+    (sym (append_assoc places (c ∷ []) rest) ∙ ap (λ (l : List ℕ). l ++ rest) (sym more)) whole
+
+-- where all that is left is 0
+pub completes_early : (most : ℕ) (sizes : List ℕ) (count : ℕ) (left places : List ℕ)
+    → ((d : ℕ) → size_at left d ≡ 0) → Completes most sizes count left places → AreLargest most sizes places
+completes_early most sizes count left places zeros so_far =
+    subst (AreLargest most sizes) (append-nil places) (so_far [] (none_of_zeros (most - count) left zeros))
+
+-- where there are as many as are wanted
+pub completes_last : (most : ℕ) (sizes : List ℕ) (count : ℕ) (left places : List ℕ) → most ≤ count
+    → Completes most sizes count left places → AreLargest most sizes places
+completes_last most sizes count left places all so_far =
+    let none : 0 ≡ most - count = omega (arith, all) in
+    let last : AreLargest 0 left [] = refl in
+    subst (AreLargest most sizes) (append-nil places)
+    (so_far [] (subst (λ (n : ℕ). AreLargest n left []) none last))
 
 -- each is one of the sizes
 pub largest_within : (most : ℕ) (sizes places : List ℕ) → AreLargest most sizes places

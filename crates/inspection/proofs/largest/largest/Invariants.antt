@@ -1,7 +1,5 @@
-use Rattle.std.proofs.Common.{◌≡◌, ◌-◌, ◌++◌, ℕ, List}
-use Rattle.inspection.specs.Largest.{AreLargest}
+use Rattle.inspection.specs.steps.Completes.{Completes}
 use Rattle.inspection.proofs.largest.largest.Given as goal
 
 abbrev pub invariant-loop : goal.invariant-loop
-invariant-loop l = (rest : List ℕ) → AreLargest (l.most - l.counter) l.left.items rest
-    → AreLargest l.most l.sizes (l.places.items ++ rest)
+invariant-loop l = Completes l.most l.sizes l.counter l.left.items l.places.items
