@@ -152,8 +152,7 @@ largest_within (suc most) sizes places are = elim are [
       let c = some.0 in
       let rest = some.1 in
       let others = largest_within most (set sizes c 0) rest some.3 in
-      subst (λ (l : List ℕ). All (λ (c : ℕ). c < length sizes) l) (sym some.4) (
-        greatest_within sizes c some.2,
-        subst (λ (n : ℕ). All (λ (c : ℕ). c < n) rest) (length-set sizes c 0) others,
-      )
+      subst (λ (l : List ℕ). All (λ (c : ℕ). c < length sizes) l) (sym some.4)
+      (All-cons (λ (d : ℕ). d < length sizes) c rest (greatest_within sizes c some.2)
+      (subst (λ (n : ℕ). All (λ (d : ℕ). d < n) rest) (length-set sizes c 0) others))
 ]
