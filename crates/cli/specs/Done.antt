@@ -34,6 +34,7 @@ use Rattle.cli.specs.Explanations.{HasExplained}
 use Rattle.cli.specs.Files.{AreBytesOf, Contents, OthersStay}
 use Rattle.cli.specs.ImageBuilds.{IsBuiltText}
 use Rattle.cli.specs.ImageRuns.{IsTextOf}
+use Rattle.cli.specs.Inspections.{HasInspected}
 use Rattle.cli.specs.Journaled.{KeepsLimit}
 use Rattle.cli.specs.Lists.{NamesGiven}
 use Rattle.cli.specs.Outputs.{AreListsApart, IsApart}
@@ -171,6 +172,8 @@ IsDone old new before after (requests.Build words) status =
     (status ≡ Done) × (after ≡ before) × HasBuilt old new words
 IsDone old new before after (requests.Explain words) status =
     (status ≡ Done) × (new ≡ old) × HasExplained old words before after
+IsDone old new before after (requests.Inspect words) status =
+    (status ≡ Done) × (new ≡ old) × HasInspected old words before after
 IsDone old new before after (requests.Lazy words) status =
     (new ≡ old) × HasRunLazily old words before after status
 IsDone old new before after (requests.Renew words) status =

@@ -22,5 +22,6 @@ pub mod Done
 pub mod Outputs
 pub mod Audits
 pub mod Explanations
+pub mod Inspections
 pub mod Lists
 pub mod Left

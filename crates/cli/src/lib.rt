@@ -20,6 +20,7 @@ mod files;
 mod image_build;
 mod image_replay;
 mod image_run;
+mod inspecting;
 pub mod laws;
 mod lazy;
 mod lists;
@@ -41,7 +42,7 @@ pub use building::{BuildFault, BuildOptions, Built};
 pub use builds::{build, build_here};
 pub use class_files::linked_program;
 pub use command_line::{
-    Audit, Build, Building, Explain, Lazy, Renew, Replay, Request, Run, WordsFault, line,
+    Audit, Build, Building, Explain, Inspect, Lazy, Renew, Replay, Request, Run, WordsFault, line,
 };
 pub use entries::entries_of;
 pub use fault::CommandFault;
@@ -51,6 +52,7 @@ pub use image_reader::ImageFault;
 pub use image_replay::{ImageReplay, replay_image};
 pub use image_run::{ImageRun, run_image};
 pub use init_engine::Rest;
+pub use inspecting::inspected_image;
 pub use lazy::{LazyRun, Shown, run_class_files};
 pub use renewing::renewed_image;
 pub use run::{CommandEnd, Held, command, command_holding};

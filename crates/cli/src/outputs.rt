@@ -30,6 +30,7 @@ pub(crate) fn overwritten<'a, F: Files>(request: &Request<'a>, files: &mut F) ->
         },
         Request::Audit(_)
         | Request::Explain(_)
+        | Request::Inspect(_)
         | Request::Lazy(_)
         | Request::Replay(_)
         | Request::Report(_) => None,
@@ -78,6 +79,7 @@ pub(crate) fn overwritten_list<'a, F: Files>(
         Request::Build(words) => list_overwritten_by_build(words, files),
         Request::Audit(_)
         | Request::Explain(_)
+        | Request::Inspect(_)
         | Request::Lazy(_)
         | Request::Renew(_)
         | Request::Replay(_)

@@ -25,14 +25,14 @@ use crate::meanings::{Errors, Voice};
 use crate::outputs::{overwritten, overwritten_list};
 use crate::standing::{tell_image_stacks, tell_lazy_stacks};
 use crate::telling::{
-    refuse, tell_audit, tell_built, tell_done, tell_endings, tell_no_files, tell_overwritten,
-    tell_replay, tell_report, tell_words,
+    refuse, tell_audit, tell_built, tell_done, tell_endings, tell_inspected, tell_no_files,
+    tell_overwritten, tell_replay, tell_report, tell_words,
 };
 use crate::untold::tell_untold;
 use crate::{
     CommandFault, CutShort, Files, Lazy, Ran, Replay, Request, Run, Status, Unwatched, Watch,
-    auditing, explaining, image_build, image_run, lazy, line, renewing, reporting, run_world,
-    status_of,
+    auditing, explaining, image_build, image_run, inspecting, lazy, line, renewing, reporting,
+    run_world, status_of,
 };
 use init_engine::World;
 use journal::Journal;
@@ -368,6 +368,10 @@ fn do_request<
         Request::Explain(words) => {
             let text = explaining::run(rt, alloc, words, files, watch);
             let status = tell_report(alloc, text, &mut out, watch, errors);
+            (status, Held::Nothing, out)
+        }
+        Request::Inspect(words) => {
+            let status = tell_inspected(inspecting::run(alloc, words, files), &mut out, errors);
             (status, Held::Nothing, out)
         }
         Request::Lazy(words) => {

@@ -165,6 +165,23 @@ pub(crate) fn tell_audit<W: Write, E: Errors>(
     }
 }
 
+/// Writes what an image holds, or why it is none.
+pub(crate) fn tell_inspected<W: Write, E: Errors>(
+    inspected: Result<Vec<u8>, CommandFault>,
+    out: &mut W,
+    errors: &mut E,
+) -> Status
+    ensures refused { result ≡ Status.Refused → out.new ≡ out.old }
+    ensures words { result ≢ Status.Words }
+    ensures done { IsOver result → (result ≡ Status.Done)
+        × IsOkAnd inspected (λ text. Appends (W.contents out.old) (W.contents out.new) text.items) }
+{
+    match inspected {
+        Ok(text) => tell_text(text.as_slice(), out, errors),
+        Err(refusal) => refuse(&refusal, errors),
+    }
+}
+
 /// Tells a refusal on standard error.
 pub(crate) fn refuse<E: Errors>(refusal: &CommandFault, errors: &mut E) -> Status
     ensures { result ≡ refusal_status refusal.now }
@@ -245,7 +262,7 @@ pub(crate) fn tell_overwritten<E: Write>(clash: Clash<'_>, errors: &mut E) -> St
 pub(crate) fn tell_no_files<E: Write>(request: &Request<'_>, errors: &mut E) {
     let takes_none = matches!(
         request,
-        Request::Renew(_) | Request::Replay(_) | Request::Run(_)
+        Request::Inspect(_) | Request::Renew(_) | Request::Replay(_) | Request::Run(_)
     );
     if !takes_none && request.files().is_empty() {
         // A failure of standard error is ignored.

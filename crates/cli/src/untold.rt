@@ -72,7 +72,7 @@ fn entry_in<'a>(request: &Request<'a>, place: usize) -> &'a str {
         Request::Lazy(words) => words.entries,
         Request::Replay(words) => words.entries,
         Request::Run(words) => words.entries,
-        Request::Build(_) | Request::Renew(_) | Request::Report(_) => "",
+        Request::Build(_) | Request::Inspect(_) | Request::Renew(_) | Request::Report(_) => "",
     };
     entries.split(',').nth(place).unwrap_or("")
 }
@@ -80,6 +80,7 @@ fn entry_in<'a>(request: &Request<'a>, place: usize) -> &'a str {
 /// The name of the image's file.
 fn image_in<'a>(request: &Request<'a>) -> &'a str {
     match request {
+        Request::Inspect(words) => words.image,
         Request::Renew(words) => words.image,
         Request::Replay(words) => words.image,
         Request::Run(words) => words.image,
@@ -98,6 +99,7 @@ fn building_of<'r, 'a>(request: &'r Request<'a>) -> Option<&'r Building<'a>> {
         Request::Explain(words) => Some(&words.building),
         Request::Report(words) => Some(words),
         Request::Audit(_)
+        | Request::Inspect(_)
         | Request::Lazy(_)
         | Request::Renew(_)
         | Request::Replay(_)

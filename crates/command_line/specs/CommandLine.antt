@@ -67,6 +67,7 @@ commands =
     ∷ command (codes "report") of_a_build
     ∷ command (codes "explain") (word (codes "class") ∷ of_a_build)
     ∷ command (codes "renew") (text (codes "out") (codes "out") true ∷ word (codes "image") ∷ [])
+    ∷ command (codes "inspect") (word (codes "image") ∷ [])
     ∷ command (codes "audit") (entries ∷ files ∷ [])
     ∷ command (codes "lazy") (entries ∷ limit ∷ flag (codes "stacks") ∷ files ∷ [])
     ∷ command (codes "run")

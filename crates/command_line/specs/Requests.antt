@@ -13,6 +13,7 @@ use Rattle.command_line.specs.declared.request.Audit.{Audit}
 use Rattle.command_line.specs.declared.request.Build.{Build}
 use Rattle.command_line.specs.declared.request.Building.{Building}
 use Rattle.command_line.specs.declared.request.Explain.{Explain}
+use Rattle.command_line.specs.declared.request.Inspect.{Inspect}
 use Rattle.command_line.specs.declared.request.Lazy.{Lazy}
 use Rattle.command_line.specs.declared.request.Renew.{Renew}
 use Rattle.command_line.specs.declared.request.Replay.{Replay}
@@ -95,6 +96,11 @@ pub record HoldsRenew (found : List Row) (renew : Renew) : Type 0 where
   pub image : first_of (codes "image") found ≡ Some renew.image.now
   pub verbose : HoldsFlag found (codes "verbose") renew.verbose
 
+-- what the words ask for, of an image to be looked at
+pub record HoldsInspect (found : List Row) (inspect : Inspect) : Type 0 where
+  pub image : first_of (codes "image") found ≡ Some inspect.image.now
+  pub verbose : HoldsFlag found (codes "verbose") inspect.verbose
+
 pub record HoldsReplay (found : List Row) (replay : Replay) : Type 0 where
   pub entries : first_of (codes "entries") found ≡ Some replay.entries.now
   pub stacks : HoldsFlag found (codes "stacks") replay.stacks
@@ -107,6 +113,7 @@ abbrev pub Holds : Text → List Row → Request → Type 0
 Holds name found (requests.Audit audit) = (name ≡ codes "audit") × HoldsAudit found audit
 Holds name found (requests.Build build) = (name ≡ codes "build") × HoldsBuild found build
 Holds name found (requests.Explain explain) = (name ≡ codes "explain") × HoldsExplain found explain
+Holds name found (requests.Inspect inspect) = (name ≡ codes "inspect") × HoldsInspect found inspect
 Holds name found (requests.Lazy lazy) = (name ≡ codes "lazy") × HoldsLazy found lazy
 Holds name found (requests.Renew renew) = (name ≡ codes "renew") × HoldsRenew found renew
 Holds name found (requests.Replay replay) = (name ≡ codes "replay") × HoldsReplay found replay

@@ -7,9 +7,9 @@ ghost use Rattle.command_line.specs.steps.Described.{HasApp, IsLocal, program_al
 use crate::arguments::Argument;
 use crate::texts::{
     AUDIT_ABOUT, AUDIT_LONG_ABOUT, BUILD_ABOUT, BUILD_LONG_ABOUT, EXPLAIN_ABOUT,
-    EXPLAIN_LONG_ABOUT, LAZY_ABOUT, LAZY_LONG_ABOUT, PROGRAM_ABOUT, RENEW_ABOUT, RENEW_LONG_ABOUT,
-    REPLAY_ABOUT, REPLAY_LONG_ABOUT, REPORT_ABOUT, REPORT_LONG_ABOUT, RUN_ABOUT, RUN_LONG_ABOUT,
-    STATUSES,
+    EXPLAIN_LONG_ABOUT, INSPECT_ABOUT, INSPECT_LONG_ABOUT, LAZY_ABOUT, LAZY_LONG_ABOUT,
+    PROGRAM_ABOUT, RENEW_ABOUT, RENEW_LONG_ABOUT, REPLAY_ABOUT, REPLAY_LONG_ABOUT, REPORT_ABOUT,
+    REPORT_LONG_ABOUT, RUN_ABOUT, RUN_LONG_ABOUT, STATUSES,
 };
 use clap::Command;
 use clap::builder::ValueParser;
@@ -26,7 +26,7 @@ struct Description {
     arguments: &'static [Argument],
 }
 
-const COMMANDS: [Description; 8] = [
+const COMMANDS: [Description; 9] = [
     Description {
         name: "build",
         about: BUILD_ABOUT,
@@ -59,6 +59,12 @@ const COMMANDS: [Description; 8] = [
         about: RENEW_ABOUT,
         long_about: RENEW_LONG_ABOUT,
         arguments: &[VERBOSE, OUT, RENEWED_IMAGE],
+    },
+    Description {
+        name: "inspect",
+        about: INSPECT_ABOUT,
+        long_about: INSPECT_LONG_ABOUT,
+        arguments: &[VERBOSE, INSPECTED_IMAGE],
     },
     Description {
         name: "audit",
@@ -173,6 +179,12 @@ const RENEWED_IMAGE: Argument = Argument::Word {
     id: "image",
     value: "IMG",
     help: "The image to write again",
+};
+
+const INSPECTED_IMAGE: Argument = Argument::Word {
+    id: "image",
+    value: "IMG",
+    help: "The image to look into",
 };
 
 const RUN_IMAGE: Argument = Argument::Word {

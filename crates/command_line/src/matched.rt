@@ -5,13 +5,16 @@ ghost use Rattle.clap.specs.Simple.{app_of};
 ghost use Rattle.clap.specs.Walk.{first_of, rows_of};
 ghost use Rattle.command_line.specs.CommandLine.{preinit};
 ghost use Rattle.command_line.specs.Requests.{Holds, HoldsAudit, HoldsBits, HoldsBuild, HoldsBuilding, HoldsExplain};
-ghost use Rattle.command_line.specs.Requests.{HoldsFlag, HoldsLazy, HoldsNumber, HoldsRenew, HoldsReplay, HoldsRun};
+ghost use Rattle.command_line.specs.Requests.{HoldsFlag, HoldsInspect, HoldsLazy, HoldsNumber, HoldsRenew};
+ghost use Rattle.command_line.specs.Requests.{HoldsReplay, HoldsRun};
 ghost use Rattle.command_line.specs.Requests.{IsFaultOf, IsLine, text_in, texts, values_of};
 ghost use Rattle.command_line.specs.steps.Faults.{AskedByMatches, IsWhatHolds, SaysKind};
 
 use crate::commands::program;
 use crate::parsed::fault_of;
-use crate::{Audit, Build, Building, Explain, Lazy, Renew, Replay, Request, Run, WordsFault};
+use crate::{
+    Audit, Build, Building, Explain, Inspect, Lazy, Renew, Replay, Request, Run, WordsFault,
+};
 use clap::error::ErrorKind;
 use clap::{ArgMatches, Command};
 use std::alloc::{AllocError, Global};
@@ -73,6 +76,7 @@ fn asked_of<'a>(
         "audit" => Ok(audit_of(alloc, arguments)?.map(Request::Audit)),
         "build" => Ok(build_of(alloc, arguments)?.map(Request::Build)),
         "explain" => Ok(explain_of(alloc, arguments)?.map(Request::Explain)),
+        "inspect" => Ok(inspect_of(arguments).map(Request::Inspect)),
         "lazy" => Ok(lazy_of(alloc, arguments)?.map(Request::Lazy)),
         "renew" => Ok(renew_of(arguments).map(Request::Renew)),
         "replay" => Ok(replay_of(arguments).map(Request::Replay)),
@@ -174,6 +178,16 @@ fn renew_of<'a>(matches: &ArgMatches<'a>) -> Option<Renew<'a>>
     let image = text_of(matches, "image")?;
     Some(Renew {
         new,
+        image,
+        verbose: flag_of(matches, "verbose"),
+    })
+}
+
+fn inspect_of<'a>(matches: &ArgMatches<'a>) -> Option<Inspect<'a>>
+    ensures { IsWhatHolds (HoldsInspect (rows_of (found_of matches.now))) result }
+{
+    let image = text_of(matches, "image")?;
+    Some(Inspect {
         image,
         verbose: flag_of(matches, "verbose"),
     })

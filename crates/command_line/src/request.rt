@@ -11,6 +11,8 @@ pub enum Request<'a> {
     Build(Build<'a>),
     /// `explain`: show every reason that a class has.
     Explain(Explain<'a>),
+    /// `inspect`: print what an image holds.
+    Inspect(Inspect<'a>),
     /// `lazy`: run class files by turns.
     Lazy(Lazy<'a>),
     /// `renew`: write an image again, in the version that is written today.
@@ -97,6 +99,15 @@ pub struct Renew<'a> {
     pub verbose: bool,
 }
 
+/// What the arguments of `inspect` request.
+#[derive(Drop)]
+pub struct Inspect<'a> {
+    /// The name of the image's file.
+    pub image: &'a str,
+    /// Whether a refusal is explained.
+    pub verbose: bool,
+}
+
 /// What the arguments of `run` request.
 #[derive(Drop)]
 pub struct Run<'a> {
@@ -138,6 +149,7 @@ impl<'a> Request<'a> {
             Request::Audit(audit) => audit.verbose,
             Request::Build(build) => build.building.verbose,
             Request::Explain(explain) => explain.building.verbose,
+            Request::Inspect(inspect) => inspect.verbose,
             Request::Lazy(lazy) => lazy.verbose,
             Request::Renew(renew) => renew.verbose,
             Request::Replay(replay) => replay.verbose,
@@ -156,7 +168,7 @@ impl<'a> Request<'a> {
             Request::Explain(explain) => explain.building.files.as_slice(),
             Request::Lazy(lazy) => lazy.files.as_slice(),
             Request::Report(building) => building.files.as_slice(),
-            Request::Renew(_) | Request::Replay(_) | Request::Run(_) => &[],
+            Request::Inspect(_) | Request::Renew(_) | Request::Replay(_) | Request::Run(_) => &[],
         }
     }
 
@@ -188,6 +200,7 @@ impl<'a> Request<'a> {
                 verbose: lazy.verbose,
             }),
             Request::Report(building) => Request::Report(building.with_files(files)),
+            Request::Inspect(inspect) => Request::Inspect(inspect),
             Request::Renew(renew) => Request::Renew(renew),
             Request::Replay(replay) => Request::Replay(replay),
             Request::Run(run) => Request::Run(run),

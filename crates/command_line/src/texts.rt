@@ -165,3 +165,23 @@ can't take a step, from 1. Of a Turn, lines of one thread that follow one anothe
 run wrote.
 
 For example: preinit replay --journal app.journal --entries app.Main,app.Other app.img";
+
+pub(crate) const INSPECT_ABOUT: &str = "\
+Says what an image holds: its version and digest, and of each class its objects and bytes";
+
+pub(crate) const INSPECT_LONG_ABOUT: &str = "\
+Reads an image, without running it, and writes to standard output its version, its digest in hexadecimal digits, the
+totals, and then a line for each class, in the order of their names:
+  version 2
+  digest 4cf5a3..                   SHA-256 of all bytes before it
+  classes 2 built 1 objects 12 bytes 640
+  app/Main run                      initialized at run time
+  app/Table build objects 12 bytes 640
+                                    initialized in the image, which keeps 12 objects of it; its region, which is its
+                                    static fields and these objects, takes 640 bytes of the image
+  largest 640 app/Table             the ten classes with the most bytes, those with the most first
+
+An image of version 1 is described as it would be written in version 2, but for its version and digest. What is wrong
+with an image is reported as for 'preinit run'.
+
+For example: preinit inspect app.img";

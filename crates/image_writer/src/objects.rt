@@ -165,7 +165,7 @@ fn push_objects(
 }
 
 /// A region: the count of the objects that were made, its statics, how many objects are held, and these.
-fn push_region(
+pub(crate) fn push_region(
     alloc: Global,
     out: &mut Vec<u8>,
     image: &Image,

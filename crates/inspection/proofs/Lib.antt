@@ -1,0 +1,2 @@
+pub mod LargestLemmas
+pub mod TextsLemmas

@@ -1,0 +1,3 @@
+pub mod Largest
+pub mod Texts
+pub mod steps
