@@ -30,5 +30,3 @@ mod OutputLemmas
 mod CountLemmas
 mod ListLemmas
 mod ImageReplayLemmas
-mod LeftLemmas
-mod BuiltRunLemmas

@@ -24,4 +24,3 @@ pub mod Audits
 pub mod Explanations
 pub mod Inspections
 pub mod Lists
-pub mod Left
