@@ -17,6 +17,7 @@ pub mod existence;
 mod explaining;
 mod fault;
 mod files;
+mod first_steps;
 mod image_build;
 mod image_replay;
 mod image_run;

@@ -10,8 +10,8 @@ use image_reader::world;
 use init_engine::World;
 use object_graph::Image;
 use program::Program;
-use stacks::{stack_lines, stacks};
-use std::alloc::Global;
+use stacks::{ThreadStacks, stack_lines, stacks, variable_lines};
+use std::alloc::{AllocError, Global};
 use thread_runner::replay::ReplayFault;
 
 /// Whether a run that ends a command so has threads that have not returned.
@@ -63,11 +63,21 @@ pub(crate) fn tell_image_stacks<E: Errors>(
     }
 }
 
-/// Tells where the threads of a replay of an image stand, by its journal, from the entries of a list.
+/// What is told of the threads of a replay.
+#[derive(Clone, Copy)]
+pub(crate) struct Told<'a> {
+    /// The list of its entries.
+    pub list: &'a str,
+    /// Whether it is told what the innermost frame of each holds.
+    pub variables: bool,
+}
+
+/// Tells where the threads of a replay of an image stand, by its journal, and what their innermost frames hold, if that
+/// is asked for.
 pub(crate) fn tell_replay_stacks<E: Errors>(
     alloc: Global,
     image: &Image,
-    list: &str,
+    told: Told<'_>,
     runs: &[(u32, u64)],
     status: Status,
     errors: &mut E,
@@ -78,7 +88,7 @@ pub(crate) fn tell_replay_stacks<E: Errors>(
     ensures done { IsOver result → result ≡ status }
 {
     if some_stand(status) {
-        tell_stacks(replay_stacks(alloc, image, list, runs), status, errors)
+        tell_stacks(replay_stacks(alloc, image, told, runs), status, errors)
     } else {
         status
     }
@@ -123,13 +133,14 @@ fn lazy_stacks(
 fn replay_stacks(
     alloc: Global,
     image: &Image,
-    list: &str,
+    told: Told<'_>,
     runs: &[(u32, u64)],
 ) -> Result<String, CommandFault>
     requires { AreRuns runs.now }
 {
-    let entries = entries_of(alloc, list)?;
+    let entries = entries_of(alloc, told.list)?;
     match world(alloc, image, entries.as_slice()) {
+        Ok(first) if told.variables => variables_from(alloc, image.program(), first, runs),
         Ok(first) => stacks_from(alloc, image.program(), first, runs),
         Err(fault) => Err(CommandFault::of_entry(fault)),
     }
@@ -149,4 +160,31 @@ fn stacks_from(
         Err(ReplayFault::Memory) => Err(CommandFault::Memory),
         Err(ReplayFault::Turn(line)) => Err(CommandFault::Turn(line)),
     }
+}
+
+/// The stacks after a schedule from a world, and what their innermost frames hold.
+fn variables_from(
+    alloc: Global,
+    program: &Program,
+    first: World,
+    runs: &[(u32, u64)],
+) -> Result<String, CommandFault>
+    requires { AreRuns runs.now }
+{
+    match stacks(alloc, program, first, runs) {
+        Ok(stacks) => Ok(stacks_and_variables(alloc, program, &stacks)?),
+        Err(ReplayFault::Memory) => Err(CommandFault::Memory),
+        Err(ReplayFault::Turn(line)) => Err(CommandFault::Turn(line)),
+    }
+}
+
+/// The lines of stacks, and then those of what their innermost frames hold.
+fn stacks_and_variables(
+    alloc: Global,
+    program: &Program,
+    stacks: &ThreadStacks,
+) -> Result<String, AllocError> {
+    let mut text = stack_lines(alloc, program, stacks)?;
+    text.push_str(&variable_lines(alloc, program, stacks)?)?;
+    Ok(text)
 }

@@ -10,7 +10,7 @@ use crate::auditing::Audited;
 use crate::meanings::Errors;
 use crate::outputs::Clash;
 use crate::running::send_seen;
-use crate::standing::tell_replay_stacks;
+use crate::standing::{Told, tell_replay_stacks};
 use crate::status::status_of_replay;
 use crate::{
     CommandFault, CutShort, ImageReplay, Replay, Request, Stage, Status, Watch, WordsFault,
@@ -66,10 +66,15 @@ fn tell_replay_threads<E: Errors>(
         status_of_replay(threads),
         errors,
     );
-    if !words.stacks {
+    let is_ended = words.at.is_some();
+    if !words.stacks && !is_ended {
         return status;
     }
-    tell_replay_stacks(alloc, image, words.entries, journal.runs(), status, errors)
+    let told = Told {
+        list: words.entries,
+        variables: is_ended,
+    };
+    tell_replay_stacks(alloc, image, told, journal.runs(), status, errors)
 }
 
 /// Tells how threads ended.

@@ -164,6 +164,14 @@ What is wrong with a journal is told by its text: Text and the first line at fau
 that is not there or has no step, from 1. Of a Turn, lines of one thread that follow one another count as one, as in a
 journal that a run wrote.
 
+With --at it ends after so many steps of the journal, or at its end, and standard error gets the stacks of the threads
+that have not returned, as with --stacks, and then what the innermost frame of each holds: its local variables and its
+operands, the lowest first:
+  thread 0 local 1 int 5
+  thread 0 local 2 app/Table (3, made by app/Main)
+  thread 0 operand 0 \"a string\"
+An object is named by its class, its number and who made it.
+
 For example: preinit replay --journal app.journal --entries app.Main,app.Other app.img";
 
 pub(crate) const INSPECT_ABOUT: &str = "\
