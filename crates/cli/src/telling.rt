@@ -10,7 +10,7 @@ use crate::auditing::Audited;
 use crate::meanings::Errors;
 use crate::outputs::Clash;
 use crate::running::send_seen;
-use crate::standing::{Told, tell_replay_stacks};
+use crate::standing::{Told, tell_replay_stacks, told_of};
 use crate::status::status_of_replay;
 use crate::{
     CommandFault, CutShort, ImageReplay, Replay, Request, Stage, Status, Watch, WordsFault,
@@ -66,15 +66,27 @@ fn tell_replay_threads<E: Errors>(
         status_of_replay(threads),
         errors,
     );
-    let is_ended = words.at.is_some();
-    if !words.stacks && !is_ended {
-        return status;
+    match told_of_replay(words, threads) {
+        Some(told) => tell_replay_stacks(
+            alloc,
+            image,
+            words.entries,
+            told,
+            journal.runs(),
+            status,
+            errors,
+        ),
+        None => status,
     }
-    let told = Told {
-        list: words.entries,
-        variables: is_ended,
-    };
-    tell_replay_stacks(alloc, image, told, journal.runs(), status, errors)
+}
+
+/// What is told of where the threads of a replay stand, which have ended so.
+fn told_of_replay(words: &Replay<'_>, threads: &[Ending]) -> Option<Told> {
+    if words.at.is_some() {
+        Some(Told::Variables)
+    } else {
+        told_of(words.stacks, words.verbose, threads)
+    }
 }
 
 /// Tells how threads ended.
