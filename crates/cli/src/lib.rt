@@ -36,6 +36,7 @@ mod standing;
 mod status;
 mod telling;
 mod threads;
+mod totals;
 mod untold;
 mod watching;
 

@@ -133,7 +133,10 @@ pub(crate) fn tell_built<E: Errors, H: Watch>(
 {
     watch.begin(Stage::Ended);
     match built {
-        Ok(()) => Status::Done,
+        Ok(()) => {
+            tell_summary(alloc, watch, errors);
+            Status::Done
+        }
         Err(refusal) => refuse_build(alloc, &refusal, watch, errors),
     }
 }
@@ -153,8 +156,19 @@ pub(crate) fn tell_report<W: Write, E: Errors, H: Watch>(
 {
     watch.begin(Stage::Ended);
     match report {
-        Ok(report) => tell_text(report.as_slice(), out, errors),
+        Ok(report) => {
+            let status = tell_text(report.as_slice(), out, errors);
+            tell_summary(alloc, watch, errors);
+            status
+        }
         Err(refusal) => refuse_build(alloc, &refusal, watch, errors),
+    }
+}
+
+/// Tells what a build came to and what it took, if that is wanted.
+fn tell_summary<E: Errors, H: Watch>(alloc: Global, watch: &H, errors: &mut E) {
+    if let Some(line) = watch.summary(alloc) {
+        errors.tell(line.as_str());
     }
 }
 

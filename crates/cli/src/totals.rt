@@ -1,0 +1,85 @@
+//! What a build comes to, as words.
+
+use crate::Watch;
+use building::Built;
+use image_writer::region_sizes;
+use initializer_analysis::verdict::Verdict;
+use object_graph::Image;
+use std::alloc::{AllocError, Global};
+
+/// How many classes are left to run time by a reason.
+struct Left {
+    word: &'static str,
+    count: u32,
+}
+
+/// Counts a class that is left by the reason of this word.
+fn count_left(left: &mut Vec<Left>, word: &'static str) -> Result<(), AllocError> {
+    for place in 0..left.len() {
+        if left[place].word == word {
+            left[place].count = left[place].count.saturating_add(1);
+            return Ok(());
+        }
+    }
+    left.push(Left { word, count: 1 })
+}
+
+/// How many classes are left by each reason, each with the first of its classes.
+fn left_by_reasons(alloc: Global, verdicts: &[Verdict]) -> Result<Vec<Left>, AllocError> {
+    let mut left = Vec::new(alloc);
+    for verdict in verdicts {
+        if let Verdict::Refused(reason) = verdict {
+            count_left(&mut left, reason.word())?;
+        }
+    }
+    Ok(left)
+}
+
+/// How many objects an image keeps.
+fn objects_of(image: &Image) -> u64 {
+    let mut objects = 0u64;
+    for class in 0..image.program().given_count() {
+        objects = objects.saturating_add(u64::from(image.object_count(class)));
+    }
+    objects
+}
+
+/// How many bytes the regions of an image take in its text.
+fn bytes_of(alloc: Global, image: &Image) -> Result<usize, AllocError> {
+    let mut bytes = 0usize;
+    for size in region_sizes(alloc, image)? {
+        bytes = bytes.saturating_add(size);
+    }
+    Ok(bytes)
+}
+
+/// What a build comes to: how many classes are initialized, how many are left to run time by each reason, and the
+/// objects and bytes of those that are.
+fn totals_text(alloc: Global, built: &Built) -> Result<String, AllocError> {
+    let verdicts = built.verdicts.as_slice();
+    let left = left_by_reasons(alloc, verdicts)?;
+    let mut count = verdicts.len();
+    for reason in &left {
+        count = count.saturating_sub(reason.count as usize);
+    }
+    let objects = objects_of(&built.image);
+    let bytes = bytes_of(alloc, &built.image)?;
+    let mut text = format!(in alloc; "{count} classes built ({objects} objects, {bytes} bytes)")?;
+    let mut before = ", left ";
+    for reason in &left {
+        let word = reason.word;
+        let count = reason.count;
+        write!(text, "{before}{count} {word}")?;
+        before = ", ";
+    }
+    Ok(text)
+}
+
+/// Tells what a build comes to, where that is wanted. Where memory is refused for it, it is not told.
+pub(crate) fn tell_totals<H: Watch>(alloc: Global, built: &Built, watch: &H) {
+    if watch.wants_totals()
+        && let Ok(text) = totals_text(alloc, built)
+    {
+        watch.built(text.as_str());
+    }
+}
