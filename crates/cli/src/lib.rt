@@ -12,6 +12,7 @@ mod build_texts;
 mod builds;
 mod by_threads;
 mod class_files;
+mod cures;
 mod entries;
 pub mod existence;
 mod explaining;

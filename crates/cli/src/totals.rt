@@ -1,27 +1,34 @@
 //! What a build comes to, as words.
 
 use crate::Watch;
+use crate::cures::cure_of;
 use building::Built;
 use image_writer::region_sizes;
-use initializer_analysis::verdict::Verdict;
+use initializer_analysis::verdict::{Reason, Verdict};
 use object_graph::Image;
 use std::alloc::{AllocError, Global};
 
-/// How many classes are left to run time by a reason.
+/// A reason for which classes are left to run time, and how many are.
 struct Left {
     word: &'static str,
+    cure: &'static str,
     count: u32,
 }
 
-/// Counts a class that is left by the reason of this word.
-fn count_left(left: &mut Vec<Left>, word: &'static str) -> Result<(), AllocError> {
+/// Counts a class that is left by a reason.
+fn count_left(left: &mut Vec<Left>, reason: Reason) -> Result<(), AllocError> {
+    let word = reason.word();
     for place in 0..left.len() {
         if left[place].word == word {
             left[place].count = left[place].count.saturating_add(1);
             return Ok(());
         }
     }
-    left.push(Left { word, count: 1 })
+    left.push(Left {
+        word,
+        cure: cure_of(reason),
+        count: 1,
+    })
 }
 
 /// How many classes are left by each reason, each with the first of its classes.
@@ -29,7 +36,7 @@ fn left_by_reasons(alloc: Global, verdicts: &[Verdict]) -> Result<Vec<Left>, All
     let mut left = Vec::new(alloc);
     for verdict in verdicts {
         if let Verdict::Refused(reason) = verdict {
-            count_left(&mut left, reason.word())?;
+            count_left(&mut left, *reason)?;
         }
     }
     Ok(left)
@@ -73,6 +80,27 @@ fn totals_text(alloc: Global, built: &Built) -> Result<String, AllocError> {
         before = ", ";
     }
     Ok(text)
+}
+
+/// What can be done about the reasons that stand, a line for each.
+fn cures_text(alloc: Global, verdicts: &[Verdict]) -> Result<String, AllocError> {
+    let mut text = String::new(alloc);
+    for reason in &left_by_reasons(alloc, verdicts)? {
+        let word = reason.word;
+        let cure = reason.cure;
+        writeln!(text, "{word}: {cure}")?;
+    }
+    Ok(text)
+}
+
+/// Tells what can be done about the reasons that stand in a build, where it is wanted what it comes to. Where memory is
+/// refused for it, it is not told.
+pub(crate) fn tell_cures<H: Watch>(alloc: Global, built: &Built, watch: &H) {
+    if watch.wants_totals()
+        && let Ok(text) = cures_text(alloc, built.verdicts.as_slice())
+    {
+        watch.built(text.as_str());
+    }
 }
 
 /// Tells what a build comes to, where that is wanted. Where memory is refused for it, it is not told.
