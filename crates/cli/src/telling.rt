@@ -158,7 +158,9 @@ pub(crate) fn tell_report<W: Write, E: Errors, H: Watch>(
     match report {
         Ok(report) => {
             let status = tell_text(report.as_slice(), out, errors);
-            tell_summary(alloc, watch, errors);
+            if matches!(status, Status::Done) {
+                tell_summary(alloc, watch, errors);
+            }
             status
         }
         Err(refusal) => refuse_build(alloc, &refusal, watch, errors),

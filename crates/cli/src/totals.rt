@@ -9,6 +9,7 @@ use object_graph::Image;
 use std::alloc::{AllocError, Global};
 
 /// A reason for which classes are left to run time, and how many are.
+#[derive(Clone, Copy)]
 struct Left {
     word: &'static str,
     cure: &'static str,
@@ -54,8 +55,9 @@ fn objects_of(image: &Image) -> u64 {
 /// How many bytes the regions of an image take in its text.
 fn bytes_of(alloc: Global, image: &Image) -> Result<usize, AllocError> {
     let mut bytes = 0usize;
-    for size in region_sizes(alloc, image)? {
-        bytes = bytes.saturating_add(size);
+    let sizes = region_sizes(alloc, image)?;
+    for size in &sizes {
+        bytes = bytes.saturating_add(*size);
     }
     Ok(bytes)
 }
@@ -85,7 +87,8 @@ fn totals_text(alloc: Global, built: &Built) -> Result<String, AllocError> {
 /// What can be done about the reasons that stand, a line for each.
 fn cures_text(alloc: Global, verdicts: &[Verdict]) -> Result<String, AllocError> {
     let mut text = String::new(alloc);
-    for reason in &left_by_reasons(alloc, verdicts)? {
+    let left = left_by_reasons(alloc, verdicts)?;
+    for reason in &left {
         let word = reason.word;
         let cure = reason.cure;
         writeln!(text, "{word}: {cure}")?;

@@ -16,7 +16,7 @@ use std::io::Write;
 const DEMANDED: &str = "it has to be initialized at build time, and can't be";
 
 /// What a jar begins with, as every zip archive that is not empty.
-const JAR: &[u8] = b"PK\x03\x04";
+const JAR: &[u8] = &[b'P', b'K', 3, 4];
 
 /// Tells what was left to be told of a refusal, by what the words name. It changes no file.
 pub(crate) fn tell_untold<F: Files, E: Write>(
@@ -70,11 +70,13 @@ pub(crate) fn tell_untold<F: Files, E: Write>(
 fn meaning_of_file<F: Files>(name: &str, files: &mut F) -> &'static str
     ensures { F.holds files.new ≡ F.holds files.old }
 {
-    match files.get(name) {
-        Ok(bytes) if bytes.as_slice().starts_with(JAR) => {
-            "a jar, and no class file: unpack it, and name the class files in it"
-        }
-        _ => NO_CLASS_FILE,
+    let Ok(bytes) = files.get(name) else {
+        return NO_CLASS_FILE;
+    };
+    if bytes.as_slice().starts_with(JAR) {
+        "a jar, and no class file: unpack it, and name the class files in it"
+    } else {
+        NO_CLASS_FILE
     }
 }
 
