@@ -50,9 +50,9 @@ def text_of(path):
 
 
 def crate_of(path):
-    """The crate that a file is of, or none."""
+    """The crate that a file is of, or none, as of lists that go through several."""
     parts = path.split("/")
-    return parts[1] if parts[0] == "crates" and len(parts) > 2 else None
+    return None if parts[-1] == "ADDING.md" else parts[1] if parts[0] == "crates" and len(parts) > 2 else None
 
 
 class Tree:
@@ -159,7 +159,7 @@ def crates_apart():
     """The crates that crates.txt or the tables of docs/ARCHITECTURE.md lack, and its picture where that is another."""
     text = text_of("docs/ARCHITECTURE.md")
     listed_there = re.findall(r"(?m)^([a-z_]+)[^:\n]*:", text_of("crates.txt"))
-    rows = re.findall(r"(?m)^\| (`[a-z_]+`(?:, `[a-z_]+`)*) \|", text.partition("| Crate |")[2])
+    rows = re.findall(r"(?m)^(?:\| )?(`[a-z_]+`(?:, `[a-z_]+`)*) \|", text.partition("Crate |")[2])
     named = re.findall(r"[a-z_]+", " ".join(rows))
     drawn = subprocess.run([f"{ROOT}/bench/layers"], capture_output=True, text=True, check=True).stdout
     return sorted(set(listed_there) ^ set(named)) + ["the picture of bench/layers"] * (drawn not in text)
@@ -168,7 +168,7 @@ def crates_apart():
 def main():
     tree = Tree()
     documents = [os.path.relpath(os.path.abspath(path), ROOT) for path in sys.argv[1:]] or [
-        path for path in tree.files if path.endswith(".md") and re.match(r"[^/]+$|docs/|bench/|crates/[^/]+/[^/]+$", path)]
+        path for path in tree.files if path.endswith(".md") and re.match(r"[^/]+$|(docs|bench|edits)/|crates/[^/]+/[^/]+$", path)]
     apart = crates_apart()
     lost = len(apart)
     for it in apart:

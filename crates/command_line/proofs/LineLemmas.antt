@@ -1,17 +1,17 @@
--- From what `clap` promises of a parse to what words ask for.
-use Rattle.std.proofs.Common.{◌≡◌, ◌≢◌, ◌∙◌, ◌⊎◌, ℕ, true, false, List, [], ◌∷◌, Option, Some, None, Result, Ok, Err}
-use Rattle.std.proofs.Common.{MatchOption, inl, inr, refl, sym, ap, ap₂, subst}
+-- From what `clap` promises of a parse to what the arguments request.
+use Rattle.std.proofs.Common.{◌≡◌, ◌∙◌, true, List, []}
+use Rattle.std.proofs.Common.{inl, inr, refl, sym, ap, subst}
 use Rattle.clap.specs.Faults.{fault_of, is_simple_and_free}
-use Rattle.clap.specs.Kinds.{FailsBy, HasKind, IsAmong}
-use Rattle.clap.specs.Simple.{App, HasMatchesOf, is_simple, subcommand_of, subcommand_rows_of}
+use Rattle.clap.specs.Kinds.{HasKind, IsAmong}
+use Rattle.clap.specs.Simple.{App, HasMatchesOf, is_simple, subcommand_of}
 use Rattle.clap.specs.Values.{kind_of}
-use Rattle.clap.specs.Walk.{Row, Text}
+use Rattle.clap.specs.Walk.{Text}
 use Rattle.clap.specs.declared.error.Error.{Error}
 use Rattle.clap.specs.declared.error.kind.ErrorKind.{ErrorKind}
 use Rattle.clap.specs.declared.error.kind.ErrorKind.TheVariants.{DisplayHelp, DisplayVersion, MissingSubcommand, OutOfMemory}
 use Rattle.clap.specs.declared.parser.matches.ArgMatches.{ArgMatches}
 use Rattle.command_line.specs.CommandLine.{faults_in, preinit}
-use Rattle.command_line.specs.Requests.{AskNothing, Holds, IsFaultOf, IsLine}
+use Rattle.command_line.specs.Requests.{IsFaultOf, IsLine}
 use Rattle.command_line.specs.declared.fault.WordsFault.{WordsFault}
 use Rattle.command_line.specs.declared.fault.WordsFault.TheVariants as faults
 use Rattle.command_line.specs.declared.request.Request.{Request}
@@ -24,7 +24,7 @@ is_told = refl
 pub is_simple_program : is_simple preinit ≡ true
 is_simple_program = refl
 
--- the words of matches that ask for something are a line
+-- the arguments of matches that request something are a line
 pub line_of : (app : App) (words : List Text) (matches : ArgMatches) (request : Request) → app ≡ preinit
     → HasMatchesOf app words matches → (is_simple_and_free app ≡ true → fault_of app words ≡ [])
     → AskedByMatches matches request → IsLine words request
@@ -76,7 +76,7 @@ told words kind (faults.Wrong text) among says = record {
   no_line = λ request line. among_none kind words among line.right;
 }
 
--- a fault of `clap` is one of the words
+-- a fault of `clap` is one of the arguments
 pub fault_told : (app : App) (words : List Text) (error : Error) (fault : WordsFault) → app ≡ preinit
     → (is_simple_and_free app ≡ true → HasKind (fault_of app words) error)
     → (kind_of error ≡ OutOfMemory → fault ≡ faults.Memory) → SaysKind (kind_of error) fault → IsFaultOf words fault

@@ -1,5 +1,5 @@
 -- The program's own command line: its commands, and the arguments that each has, in the order of its help.
-use Rattle.std.specs.Prelude.{◌≡◌, ◌≢◌, ◌^◌, ◌-◌, ◌⊎◌, ℕ, Bool, true, false, List, [], ◌∷◌, Option, Some, codes}
+use Rattle.std.specs.Prelude.{◌≢◌, ◌^◌, ◌-◌, ◌⊎◌, Bool, true, false, List, [], ◌∷◌, Some, codes}
 use Rattle.clap.specs.Faults.{fault_of}
 use Rattle.clap.specs.Kinds.{IsAmong, Kinds}
 use Rattle.clap.specs.Lexer.{usize_max}
@@ -82,7 +82,7 @@ commands =
     ∷ text (codes "journal") (codes "journal") true ∷ word (codes "image") ∷ [])
     ∷ []
 
--- The program: one of the commands is wanted, and without any word its help is shown.
+-- The program: one of the commands is required, and without any argument its help is shown.
 abbrev pub preinit : App
 preinit = record {
   top = record (new_shape (codes "preinit")) {
@@ -95,16 +95,16 @@ preinit = record {
   subs = commands;
 }
 
--- ---- what is wrong with words
+-- ---- what is wrong with command-line arguments
 
--- the kinds of error that a parse of the words may end with, and none where it ends with no error
+-- the kinds of error that a parse of the arguments may end with, and none where it ends with no error
 abbrev pub faults_in : List Text → Kinds
 faults_in words = fault_of preinit words
 
--- text is asked for, as help or the version, and nothing else
+-- help or the version is requested, and nothing else
 abbrev pub AsksHelp : List Text → Type 0
 AsksHelp words = IsAmong DisplayHelp (faults_in words) ⊎ IsAmong DisplayVersion (faults_in words)
 
--- the words break a rule of the command line
+-- the arguments break a rule of the command line
 abbrev pub BreaksRule : List Text → Type 0
 BreaksRule words = (kind : ErrorKind) × IsAmong kind (faults_in words) × (kind ≢ DisplayHelp) × (kind ≢ DisplayVersion)

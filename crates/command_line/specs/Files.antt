@@ -2,21 +2,17 @@
 use Rattle.std.specs.Prelude.{ℕ, List, []}
 use Rattle.std.specs.Borrow.{Bor}
 use Rattle.std.specs.Global.{Vec}
-use Rattle.command_line.specs.declared.request.Audit.{Audit}
-use Rattle.command_line.specs.declared.request.Build.{Build}
 use Rattle.command_line.specs.declared.request.Building.{Building}
-use Rattle.command_line.specs.declared.request.Explain.{Explain}
-use Rattle.command_line.specs.declared.request.Lazy.{Lazy}
 use Rattle.command_line.specs.declared.request.Request.{Request}
 use Rattle.command_line.specs.declared.request.Request.TheVariants as requests
 
 -- the names of class files that a request has: none, where it is one of an image
 abbrev pub files_of : Request → List (Bor (List ℕ))
-files_of (requests.Audit words) = words.files.items
-files_of (requests.Build words) = words.building.files.items
-files_of (requests.Explain words) = words.building.files.items
-files_of (requests.Lazy words) = words.files.items
-files_of (requests.Report words) = words.files.items
+files_of (requests.Audit audit) = audit.files.items
+files_of (requests.Build build) = build.building.files.items
+files_of (requests.Explain explain) = explain.building.files.items
+files_of (requests.Lazy lazy) = lazy.files.items
+files_of (requests.Report building) = building.files.items
 files_of _ = []
 
 -- the same build of other class files
@@ -25,11 +21,11 @@ building_with building files = record building { files = files }
 
 -- the same request of other class files, where it is one of class files
 abbrev pub with_files : Request → Vec (Bor (List ℕ)) → Request
-with_files (requests.Audit words) files = requests.Audit (record words { files = files })
-with_files (requests.Build words) files =
-    requests.Build (record words { building = building_with words.building files })
-with_files (requests.Explain words) files =
-    requests.Explain (record words { building = building_with words.building files })
-with_files (requests.Lazy words) files = requests.Lazy (record words { files = files })
-with_files (requests.Report words) files = requests.Report (building_with words files)
+with_files (requests.Audit audit) files = requests.Audit (record audit { files = files })
+with_files (requests.Build build) files =
+    requests.Build (record build { building = building_with build.building files })
+with_files (requests.Explain explain) files =
+    requests.Explain (record explain { building = building_with explain.building files })
+with_files (requests.Lazy lazy) files = requests.Lazy (record lazy { files = files })
+with_files (requests.Report building) files = requests.Report (building_with building files)
 with_files request _ = request

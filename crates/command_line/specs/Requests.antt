@@ -1,4 +1,4 @@
--- What words ask for, by what was found of the arguments of their command, and what else they give.
+-- What command-line arguments request, by what was found of those of their command, and what else they give.
 use Rattle.std.specs.Prelude.{◌≡◌, ◌≢◌, ℕ, Bool, true, false, List, [], Option, Some, None, Ok, map, option_map}
 use Rattle.std.specs.Prelude.{MatchOption, codes, unwrap_or}
 use Rattle.std.specs.Borrow.{Bor}
@@ -53,7 +53,7 @@ pub record HoldsFlag (found : List Row) (id : Text) (used : Bool) : Type 0 where
   pub yes : one_of id found ≡ Some (codes "true") → used ≡ true
   pub no : one_of id found ≡ Some (codes "false") → used ≡ false
 
--- what a build is asked for
+-- what is requested of a build
 pub record HoldsBuilding (found : List Row) (building : Building) : Type 0 where
   pub run_time : text_in building.run_time ≡ first_of (codes "run_time") found
   pub build_time : text_in building.build_time ≡ first_of (codes "build_time") found
@@ -67,18 +67,18 @@ pub record HoldsBuild (found : List Row) (build : Build) : Type 0 where
   pub building : HoldsBuilding found build.building
   pub workers : HoldsBits 32 found (codes "workers") build.workers
 
--- what is asked of the classes of a build, or of one of them
+-- what is requested of the classes of a build, or of one of them
 pub record HoldsExplain (found : List Row) (explain : Explain) : Type 0 where
   pub class : first_of (codes "class") found ≡ Some explain.class.now
   pub building : HoldsBuilding found explain.building
 
--- what is asked before a run
+-- what is requested before a run
 pub record HoldsAudit (found : List Row) (audit : Audit) : Type 0 where
   pub entries : first_of (codes "entries") found ≡ Some audit.entries.now
   pub files : texts audit.files.items ≡ values_of found (codes "file")
   pub verbose : HoldsFlag found (codes "verbose") audit.verbose
 
--- what a run is asked for
+-- what is requested of a run
 pub record HoldsLazy (found : List Row) (lazy : Lazy) : Type 0 where
   pub entries : first_of (codes "entries") found ≡ Some lazy.entries.now
   pub limit : HoldsNumber found (codes "limit") lazy.limit
@@ -95,7 +95,7 @@ pub record HoldsRun (found : List Row) (run : Run) : Type 0 where
   pub image : first_of (codes "image") found ≡ Some run.image.now
   pub verbose : HoldsFlag found (codes "verbose") run.verbose
 
--- what the words ask for, of an image to be written again
+-- what is requested of an image to be written again
 pub record HoldsRenew (found : List Row) (renew : Renew) : Type 0 where
   pub new : first_of (codes "out") found ≡ Some renew.new.now
   pub image : first_of (codes "image") found ≡ Some renew.image.now
@@ -114,7 +114,7 @@ pub record HoldsReplay (found : List Row) (replay : Replay) : Type 0 where
   pub image : first_of (codes "image") found ≡ Some replay.image.now
   pub verbose : HoldsFlag found (codes "verbose") replay.verbose
 
--- The command of this name asks for this, by what was found of its arguments.
+-- The command of this name requests this, by what was found of its arguments.
 abbrev pub Holds : Text → List Row → Request → Type 0
 Holds name found (requests.Audit audit) = (name ≡ codes "audit") × HoldsAudit found audit
 Holds name found (requests.Build build) = (name ≡ codes "build") × HoldsBuild found build
@@ -126,8 +126,8 @@ Holds name found (requests.Replay replay) = (name ≡ codes "replay") × HoldsRe
 Holds name found (requests.Report building) = (name ≡ codes "report") × HoldsBuilding found building
 Holds name found (requests.Run run) = (name ≡ codes "run") × HoldsRun found run
 
--- The words are a command of the program, with arguments that are right, and this is what they ask for: the command,
--- with the values that were found.
+-- The arguments name a command of the program, break no rule, and this is what they request: the command, with the
+-- values that were found.
 pub record IsLine (words : List Text) (request : Request) : Type 0 where
   pub right : faults_in words ≡ []
   pub name : Text
@@ -135,12 +135,12 @@ pub record IsLine (words : List Text) (request : Request) : Type 0 where
   pub met : subcommand_of preinit words ≡ Some (name, found)
   pub holds : Holds name found request
 
--- The words ask for nothing: a rule of the command line is broken, or else a value is not there that a command needs.
+-- The arguments request nothing: a rule of the command line is broken, or else a value that a command needs is missing.
 pub record AskNothing (words : List Text) : Type 0 where
   pub rule : faults_in words ≢ [] → BreaksRule words
   pub no_line : (request : Request) → IsLine words request → ⊥
 
--- what the words are, where they give this in place of a request
+-- what the arguments are, where they give this in place of a request
 abbrev pub IsFaultOf : List Text → WordsFault → Type 0
 IsFaultOf words faults.Memory = Unit {0}
 IsFaultOf words (faults.Help text) = AsksHelp words

@@ -15,7 +15,7 @@ use clap::Command;
 use clap::builder::ValueParser;
 use std::alloc::{AllocError, Global};
 
-/// What `--version` tells after the program's name.
+/// What `--version` prints after the program's name.
 const VERSION: &str = "0.1.0";
 
 /// A command, what help says of it, and its arguments in help's order.
@@ -113,7 +113,7 @@ const REPORT: Argument = Argument::Text {
     name: "report",
     value: "FILE",
     is_required: false,
-    help: "The file that gets the report of the build, as 'preinit report' tells it",
+    help: "The file that gets the report of the build, as 'preinit report' prints it",
 };
 
 const WORKERS: Argument = Argument::Number {
@@ -140,7 +140,7 @@ const LIMIT: Argument = Argument::Number {
 
 const VERBOSE: Argument = Argument::Flag {
     name: "verbose",
-    help: "Tells what a refusal means in a second line",
+    help: "Says what a refusal means in a second line",
 };
 
 const TURNS: Argument = Argument::Flag {
@@ -150,7 +150,7 @@ const TURNS: Argument = Argument::Flag {
 
 const STACKS: Argument = Argument::Flag {
     name: "stacks",
-    help: "Tells on standard error where each thread stands that has not returned",
+    help: "Shows on standard error where each thread stands that has not returned",
 };
 
 const AT: Argument = Argument::Maybe {
@@ -225,7 +225,7 @@ const RUN_TIME: Argument = Argument::Text {
     name: "initialize-at-run-time",
     value: "LIST",
     is_required: false,
-    help: "The same that are initialized at run time, whatever they do; with their subclasses",
+    help: "Classes and packages that are initialized at run time, whatever they do; with their subclasses",
 };
 
 const BUDGET: Argument = Argument::Number {

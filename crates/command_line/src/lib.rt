@@ -1,6 +1,6 @@
-//! The words of the command line.
+//! The command line.
 //!
-//! [`line`] reads the words after the program's name: a command and what they ask for, or a [`WordsFault`].
+//! [`line`] parses the arguments after the program's name into a [`Request`], or else a [`WordsFault`].
 #![tactic(auto)]
 
 mod arguments;

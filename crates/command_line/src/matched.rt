@@ -1,4 +1,4 @@
-//! What words ask for, by the matches of `clap`.
+//! Requests from the matches of `clap`.
 ghost use Rattle.std.specs.Prelude.{◌≡◌, ◌≢◌, IfOk, MatchResult, codes};
 ghost use Rattle.clap.specs.Matches.{found_of};
 ghost use Rattle.clap.specs.Simple.{app_of};
@@ -19,12 +19,12 @@ use clap::error::ErrorKind;
 use clap::{ArgMatches, Command};
 use std::alloc::{AllocError, Global};
 
-/// Reads the words after the program's name.
+/// Parses the arguments after the program's name.
 ///
 /// # Errors
-/// `Help` where help or the version was asked for, `Wrong` where the words ask for nothing, and `Memory`.
+/// `Help` where help or the version is requested, `Wrong` where the arguments request nothing, and `Memory`.
 pub fn line<'a>(alloc: Global, words: &'a [&'a str]) -> Result<Request<'a>, WordsFault>
-    // What is asked for is the command of the words, with the values that stand there; and a fault is one of them.
+    // The request is of the command that the arguments name, with their values; and a fault is one of theirs.
     ensures { MatchResult result (IsLine (texts words.now)) (IsFaultOf (texts words.now)) }
 {
     match program(alloc) {
@@ -64,7 +64,7 @@ fn command_of<'a>(
     }
 }
 
-/// What a command asks for by its arguments.
+/// What a command requests by its arguments.
 fn asked_of<'a>(
     alloc: Global,
     name: &str,
@@ -106,7 +106,7 @@ fn build_of<'a>(alloc: Global, matches: &ArgMatches<'a>) -> Result<Option<Build<
     }
 }
 
-/// What the words of a build ask for.
+/// What the arguments of a build request.
 fn building_of<'a>(
     alloc: Global,
     matches: &ArgMatches<'a>,
@@ -266,7 +266,7 @@ fn files_of<'a>(alloc: Global, matches: &ArgMatches<'a>) -> Result<Vec<&'a str>,
     }
 }
 
-/// The fault of words that `clap` takes and that ask for nothing.
+/// The fault of arguments that `clap` accepts and that request nothing.
 fn missing(alloc: Global, program: &mut Command<'_>) -> WordsFault
     ensures { SaysKind ErrorKind.MissingSubcommand result }
 {

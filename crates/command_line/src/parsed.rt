@@ -1,4 +1,4 @@
-//! What `clap` says of words, as a fault.
+//! What `clap` reports, as a fault.
 ghost use Rattle.std.specs.Prelude.{◌≡◌};
 ghost use Rattle.clap.specs.Values.{kind_of};
 ghost use Rattle.clap.specs.declared.error.kind.ErrorKind.TheVariants.{OutOfMemory};

@@ -1,17 +1,17 @@
-//! What the words of the command line ask for.
+//! What a command line requests.
 ghost use Rattle.std.specs.Prelude.{◌≡◌};
 ghost use Rattle.command_line.specs.Files.{building_with, files_of, with_files};
 
-/// A command and what its words ask for. Texts are as given.
+/// A command and what its arguments request. Texts are as given.
 #[derive(Drop)]
 pub enum Request<'a> {
-    /// `audit`: tell where the threads of entries may end for want of what is left out or not there.
+    /// `audit`: report where the threads of entries may end because something is not implemented or missing.
     Audit(Audit<'a>),
-    /// `build`: make an image of class files.
+    /// `build`: write an image of class files.
     Build(Build<'a>),
-    /// `explain`: tell all that stands against a class.
+    /// `explain`: show every reason that a class has.
     Explain(Explain<'a>),
-    /// `inspect`: say what an image holds.
+    /// `inspect`: print what an image holds.
     Inspect(Inspect<'a>),
     /// `lazy`: run class files by turns.
     Lazy(Lazy<'a>),
@@ -19,13 +19,13 @@ pub enum Request<'a> {
     Renew(Renew<'a>),
     /// `replay`: run an image by a journal.
     Replay(Replay<'a>),
-    /// `report`: tell which classes are initialized at build time.
+    /// `report`: show which classes are initialized at build time.
     Report(Building<'a>),
     /// `run`: run an image, by threads or by turns.
     Run(Run<'a>),
 }
 
-/// What the words of `audit` ask for.
+/// What the arguments of `audit` request.
 #[derive(Drop)]
 pub struct Audit<'a> {
     /// The names of the entry classes, with commas between them.
@@ -36,7 +36,7 @@ pub struct Audit<'a> {
     pub verbose: bool,
 }
 
-/// What the words of `explain` ask for.
+/// What the arguments of `explain` request.
 #[derive(Drop)]
 pub struct Explain<'a> {
     /// The name of a class, with dots, or `all`.
@@ -45,7 +45,7 @@ pub struct Explain<'a> {
     pub building: Building<'a>,
 }
 
-/// What the words of `build` ask for.
+/// What the arguments of `build` request.
 #[derive(Drop)]
 pub struct Build<'a> {
     /// The name of the image's file.
@@ -58,7 +58,7 @@ pub struct Build<'a> {
     pub workers: u32,
 }
 
-/// What the words of `build` and `report` ask for of a build.
+/// What the arguments of `build`, `report` and `explain` request of a build.
 #[derive(Drop)]
 pub struct Building<'a> {
     /// The list of the option `--initialize-at-run-time`.
@@ -73,14 +73,14 @@ pub struct Building<'a> {
     pub verbose: bool,
 }
 
-/// What the words of `lazy` ask for.
+/// What the arguments of `lazy` request.
 #[derive(Drop)]
 pub struct Lazy<'a> {
     /// The names of the entry classes, with commas between them.
     pub entries: &'a str,
     /// The greatest number of steps of the run, from 1 to 10^15.
     pub limit: u64,
-    /// Whether it is told where the threads stand.
+    /// Whether it is shown where the threads stand.
     pub stacks: bool,
     /// The names of the class files, in the order given.
     pub files: Vec<&'a str>,
@@ -88,7 +88,7 @@ pub struct Lazy<'a> {
     pub verbose: bool,
 }
 
-/// What the words of `renew` ask for.
+/// What the arguments of `renew` request.
 #[derive(Drop)]
 pub struct Renew<'a> {
     /// The name of the file that gets the new image.
@@ -99,7 +99,7 @@ pub struct Renew<'a> {
     pub verbose: bool,
 }
 
-/// What the words of `inspect` ask for.
+/// What the arguments of `inspect` request.
 #[derive(Drop)]
 pub struct Inspect<'a> {
     /// The name of the image's file.
@@ -108,7 +108,7 @@ pub struct Inspect<'a> {
     pub verbose: bool,
 }
 
-/// What the words of `run` ask for.
+/// What the arguments of `run` request.
 #[derive(Drop)]
 pub struct Run<'a> {
     /// The names of the entry classes, with commas between them.
@@ -117,7 +117,7 @@ pub struct Run<'a> {
     pub limit: u64,
     /// Whether the threads take turns.
     pub turns: bool,
-    /// Whether it is told where the threads stand.
+    /// Whether it is shown where the threads stand.
     pub stacks: bool,
     /// The name of the file that gets the journal.
     pub journal: Option<&'a str>,
@@ -127,12 +127,12 @@ pub struct Run<'a> {
     pub verbose: bool,
 }
 
-/// What the words of `replay` ask for.
+/// What the arguments of `replay` request.
 #[derive(Drop)]
 pub struct Replay<'a> {
     /// The names of the entry classes, with commas between them.
     pub entries: &'a str,
-    /// Whether it is told where the threads stand.
+    /// Whether it is shown where the threads stand.
     pub stacks: bool,
     /// How many steps of the journal are made, where not all are.
     pub at: Option<u64>,
@@ -148,15 +148,15 @@ impl<'a> Request<'a> {
     /// Whether a refusal is explained.
     pub fn is_verbose(&self) -> bool {
         match self {
-            Request::Audit(words) => words.verbose,
-            Request::Build(words) => words.building.verbose,
-            Request::Explain(words) => words.building.verbose,
-            Request::Inspect(words) => words.verbose,
-            Request::Lazy(words) => words.verbose,
-            Request::Renew(words) => words.verbose,
-            Request::Replay(words) => words.verbose,
-            Request::Report(words) => words.verbose,
-            Request::Run(words) => words.verbose,
+            Request::Audit(audit) => audit.verbose,
+            Request::Build(build) => build.building.verbose,
+            Request::Explain(explain) => explain.building.verbose,
+            Request::Inspect(inspect) => inspect.verbose,
+            Request::Lazy(lazy) => lazy.verbose,
+            Request::Renew(renew) => renew.verbose,
+            Request::Replay(replay) => replay.verbose,
+            Request::Report(building) => building.verbose,
+            Request::Run(run) => run.verbose,
         }
     }
 
@@ -165,11 +165,11 @@ impl<'a> Request<'a> {
         ensures { result.now ≡ files_of self.now }
     {
         match self {
-            Request::Audit(words) => words.files.as_slice(),
-            Request::Build(words) => words.building.files.as_slice(),
-            Request::Explain(words) => words.building.files.as_slice(),
-            Request::Lazy(words) => words.files.as_slice(),
-            Request::Report(words) => words.files.as_slice(),
+            Request::Audit(audit) => audit.files.as_slice(),
+            Request::Build(build) => build.building.files.as_slice(),
+            Request::Explain(explain) => explain.building.files.as_slice(),
+            Request::Lazy(lazy) => lazy.files.as_slice(),
+            Request::Report(building) => building.files.as_slice(),
             Request::Inspect(_) | Request::Renew(_) | Request::Replay(_) | Request::Run(_) => &[],
         }
     }
@@ -179,33 +179,33 @@ impl<'a> Request<'a> {
         ensures { result ≡ with_files self.entry files.entry }
     {
         match self {
-            Request::Audit(words) => Request::Audit(Audit {
-                entries: words.entries,
+            Request::Audit(audit) => Request::Audit(Audit {
+                entries: audit.entries,
                 files,
-                verbose: words.verbose,
+                verbose: audit.verbose,
             }),
-            Request::Build(words) => Request::Build(Build {
-                image: words.image,
-                report: words.report,
-                building: words.building.with_files(files),
-                workers: words.workers,
+            Request::Build(build) => Request::Build(Build {
+                image: build.image,
+                report: build.report,
+                building: build.building.with_files(files),
+                workers: build.workers,
             }),
-            Request::Explain(words) => Request::Explain(Explain {
-                class: words.class,
-                building: words.building.with_files(files),
+            Request::Explain(explain) => Request::Explain(Explain {
+                class: explain.class,
+                building: explain.building.with_files(files),
             }),
-            Request::Lazy(words) => Request::Lazy(Lazy {
-                entries: words.entries,
-                limit: words.limit,
-                stacks: words.stacks,
+            Request::Lazy(lazy) => Request::Lazy(Lazy {
+                entries: lazy.entries,
+                limit: lazy.limit,
+                stacks: lazy.stacks,
                 files,
-                verbose: words.verbose,
+                verbose: lazy.verbose,
             }),
-            Request::Report(words) => Request::Report(words.with_files(files)),
-            Request::Inspect(words) => Request::Inspect(words),
-            Request::Renew(words) => Request::Renew(words),
-            Request::Replay(words) => Request::Replay(words),
-            Request::Run(words) => Request::Run(words),
+            Request::Report(building) => Request::Report(building.with_files(files)),
+            Request::Inspect(inspect) => Request::Inspect(inspect),
+            Request::Renew(renew) => Request::Renew(renew),
+            Request::Replay(replay) => Request::Replay(replay),
+            Request::Run(run) => Request::Run(run),
         }
     }
 }

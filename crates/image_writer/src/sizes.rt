@@ -1,6 +1,6 @@
 //! How many bytes the regions of an image take in its text.
 
-ghost use Rattle.std.specs.Prelude.{◌≡◌, [], IfOk, OnOk, map, option_map};
+ghost use Rattle.std.specs.Prelude.{◌≡◌, ◌<◌, ◌^◌, [], IfOk, OnOk, length, map, option_map};
 ghost use Rattle.std.specs.List.{range_with_len};
 ghost use Rattle.region_shape.specs.Regions.{environment_of};
 ghost use Rattle.image_format.specs.Told.{told_region};
@@ -43,7 +43,8 @@ fn size_of_region(
 /// The sizes of the regions of the classes below a number.
 fn sizes_below(alloc: Global, image: &Image, count: u32) -> Result<Vec<usize>, AllocError>
     requires { HasFiles image.now.program }
-    ensures { IfOk result (λ sizes. sizes.items ≡ map (region_size image.now) (range_with_len 0 count)) }
+    ensures sizes { IfOk result (λ sizes. sizes.items ≡ map (region_size image.now) (range_with_len 0 count)) }
+    ensures count { IfOk result (λ sizes. length sizes.items ≡ count) }
 {
     let mut buffer = Vec::new(alloc);
     let mut sizes = Vec::new(alloc);
@@ -60,7 +61,8 @@ fn sizes_below(alloc: Global, image: &Image, count: u32) -> Result<Vec<usize>, A
 /// # Errors
 /// Where memory runs out.
 pub fn region_sizes(alloc: Global, image: &Image) -> Result<Vec<usize>, AllocError>
-    ensures { IfOk result (λ sizes. sizes.items ≡ region_sizes image.now) }
+    ensures sizes { IfOk result (λ sizes. sizes.items ≡ region_sizes image.now) }
+    ensures few { IfOk result (λ sizes. length sizes.items < 2 ^ 32) }
 {
     show_files(image.program());
     let classes = image.program().family().classes();

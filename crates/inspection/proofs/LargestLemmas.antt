@@ -1,6 +1,6 @@
 -- The greatest of sizes, and the places of the greatest.
 use Rattle.std.proofs.Common.{◌≡◌, ◌⊎◌, ◌∙◌, ℕ, zero, suc, ◌+◌, ◌-◌, ◌<◌, ◌≤◌, List, [], ◌∷◌, ◌++◌, length, set}
-use Rattle.std.proofs.Common.{Option, Some, None, MatchOption, append_assoc, inl, inr, refl, sym, ap, subst, arith}
+use Rattle.std.proofs.Common.{Option, Some, None, MatchOption, IfSome, append_assoc, inl, inr, refl, sym, ap, subst, arith}
 use Rattle.std.specs.List.{All}
 use Rattle.std.proofs.lemmas.Bool.{cases_lt}
 use Rattle.std.proofs.lemmas.List.{append-nil, get_or_past, length-set}
@@ -86,6 +86,12 @@ greatest_within sizes c is = elim (cases_lt c (length sizes)) [
   | inl low ↦ low
   | inr past ↦ let none : size_at sizes c ≡ 0 = get_or_past sizes c 0 past in absurd (omega (arith, none, is.some))
 ]
+
+pub found_within : (sizes : List ℕ) (place : Option ℕ)
+    → MatchOption place ((d : ℕ) → size_at sizes d ≡ 0) (IsGreatest sizes)
+    → IfSome place (λ (c : ℕ). c < length sizes)
+found_within sizes None is = tt
+found_within sizes (Some c) is = greatest_within sizes c is
 
 -- ---- the places of the greatest
 

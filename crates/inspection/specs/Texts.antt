@@ -6,7 +6,7 @@ use Rattle.std.specs.Fmt.{digit_glyph}
 use Rattle.vm_state.specs.SharedState.{Region}
 use Rattle.region_shape.specs.Regions.{environment_of}
 use Rattle.object_graph.specs.Images.{ImageTables, object_count}
-use Rattle.image_writer.specs.ImageTexts.{region_size, region_sizes}
+use Rattle.image_writer.specs.ImageTexts.{region_sizes}
 use Rattle.report.specs.Texts.{class_text}
 use Rattle.inspection.specs.Largest.{AreLargest, size_at}
 
@@ -52,7 +52,7 @@ holding_text (Some region) size = codes "build objects " ++ (decimal (object_cou
 
 abbrev pub class_line : ImageTables → ℕ → List ℕ
 class_line I c = class_text I.program.family c
-    ++ (codes " " ++ (holding_text (environment_of I.regions c) (region_size I c) ++ codes "\n"))
+    ++ (codes " " ++ (holding_text (environment_of I.regions c) (size_at (region_sizes I) c) ++ codes "\n"))
 
 -- the lines of the classes below a number, in the order of their names
 abbrev pub lines_below : ImageTables → ℕ → List ℕ

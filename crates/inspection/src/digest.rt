@@ -32,6 +32,7 @@ pub(crate) fn digest_text(alloc: Global, bytes: &[u8]) -> Result<String, AllocEr
 }
 
 /// Adds a byte in two digits.
+#[tactic(auto, using(std::proofs::lemmas::Fmt::hex_byte))]
 fn add_byte(text: &mut String, byte: u8) -> Result<(), AllocError>
     ensures { OnOk result (string_bytes text.new ≡ string_bytes text.old ++ hex_of byte) }
 {

@@ -1,6 +1,6 @@
 //! The classes with the most bytes.
 
-ghost use Rattle.std.specs.Prelude.{◌≡◌, ◌++◌, ◌<◌, ℕ, List, ◌+◌, MatchOption, IfOk, OnOk, length};
+ghost use Rattle.std.specs.Prelude.{◌≡◌, ◌++◌, ◌<◌, ◌^◌, ◌+◌, ℕ, List, MatchOption, IfSome, IfOk, OnOk, length};
 ghost use Rattle.std.specs.List.{flat_map, All};
 ghost use Rattle.std.specs.String.{string_bytes};
 ghost use Rattle.image_writer.specs.ImageTexts.{region_sizes};
@@ -12,6 +12,16 @@ use object_graph::Image;
 use report::class_text;
 use std::alloc::{AllocError, Global};
 
+/// The size at a place, and 0 where there is none.
+pub(crate) fn size_at(sizes: &[usize], place: usize) -> usize
+    ensures { result ≡ size_at sizes.now place }
+{
+    match sizes.get(place) {
+        Some(size) => *size,
+        None => 0,
+    }
+}
+
 /// The greatest size so far, and its first place, if it is above 0.
 #[derive(Clone, Copy)]
 pub(crate) struct Best {
@@ -20,6 +30,7 @@ pub(crate) struct Best {
 }
 
 /// The greatest with one more size.
+#[tactic(auto, using(crate::proofs::LargestLemmas::best_is_next, crate::proofs::LargestLemmas::best_stays))]
 fn better(best: Best, place: usize, size: usize) -> Best
     ensures { (sizes : List ℕ) → size ≡ size_at sizes place → IsBest sizes place best
         → IsBest sizes (place + 1) result }
@@ -35,14 +46,15 @@ fn better(best: Best, place: usize, size: usize) -> Best
 
 /// The place of the first of the greatest sizes, if one is above 0.
 fn greatest(sizes: &[usize]) -> Option<usize>
-    ensures { MatchOption result ((d : ℕ) → size_at sizes.now d ≡ 0) (IsGreatest sizes.now) }
+    ensures is { MatchOption result ((d : ℕ) → size_at sizes.now d ≡ 0) (IsGreatest sizes.now) }
+    ensures within { IfSome result (λ place. place < length sizes.now) }
 {
     let mut best = Best {
         place: None,
         size: 0,
     };
     for place in 0..sizes.len() {
-        best = better(best, place, sizes[place]);
+        best = better(best, place, size_at(sizes, place));
     }
     best.place
 }
@@ -72,11 +84,12 @@ fn add_line(
     class: usize,
 ) -> Result<(), AllocError>
     requires sizes { sizes.now ≡ region_sizes image.now }
+    requires few { length sizes.now < 2 ^ 32 }
     requires class { class < length sizes.now }
     ensures { OnOk result (string_bytes text.new ≡ string_bytes text.old ++ largest_line image.now class) }
 {
     let name = class_text(alloc, image.program().family(), class as u32)?;
-    let size = sizes[class];
+    let size = size_at(sizes, class);
     writeln!(text, "largest {size} {name}")
 }
 
@@ -88,6 +101,7 @@ pub(crate) fn largest_lines(
     classes: &[usize],
 ) -> Result<String, AllocError>
     requires sizes { sizes.now ≡ region_sizes image.now }
+    requires few { length sizes.now < 2 ^ 32 }
     requires classes { All (λ (class : ℕ). class < length sizes.now) classes.now }
     ensures { IfOk result (λ text. string_bytes text ≡ flat_map (largest_line image.now) classes.now) }
 {

@@ -2,10 +2,12 @@
 
 ghost use Rattle.std.specs.Prelude.{◌≡◌, ◌++◌, ◌<◌, length, IfOk, OnOk};
 ghost use Rattle.std.specs.String.{string_bytes};
-ghost use Rattle.image_writer.specs.ImageTexts.{region_size, region_sizes};
+ghost use Rattle.image_writer.specs.ImageTexts.{region_sizes};
 ghost use Rattle.region_shape.specs.Regions.{environment_of};
+ghost use Rattle.inspection.specs.Largest.{size_at};
 ghost use Rattle.inspection.specs.Texts.{class_line, holding_text, lines_below};
 
+use crate::largest::size_at;
 use object_graph::Image;
 use report::class_text;
 use std::alloc::{AllocError, Global};
@@ -32,7 +34,7 @@ fn add_line(
     class: u32,
     size: usize,
 ) -> Result<(), AllocError>
-    requires { size ≡ region_size image.now class }
+    requires { size ≡ size_at (region_sizes image.now) class }
     ensures { OnOk result (string_bytes text.new ≡ string_bytes text.old ++ class_line image.now class) }
 {
     let name = class_text(alloc, image.program().family(), class)?;
@@ -52,7 +54,8 @@ pub(crate) fn class_lines(
     let mut text = String::new(alloc);
     let classes = image.program().family().classes();
     for class in 0..classes.len() as u32 {
-        add_line(alloc, &mut text, image, class, sizes[class as usize])?;
+        let size = size_at(sizes, class as usize);
+        add_line(alloc, &mut text, image, class, size)?;
     }
     Ok(text)
 }

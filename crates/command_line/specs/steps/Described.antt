@@ -1,7 +1,7 @@
 -- The rules that the table of commands gives `clap`.
-use Rattle.std.specs.Prelude.{◌≡◌, Bool, true, false, List, [], Option, Some, codes, fold}
+use Rattle.std.specs.Prelude.{◌≡◌, true, false, [], codes, fold}
 use Rattle.clap.specs.Simple.{App, Shape, app_of, new_app, new_shape, with_rule, with_subcommand}
-use Rattle.clap.specs.Walk.{Rule, Text}
+use Rattle.clap.specs.Walk.{Rule}
 use Rattle.clap.specs.declared.builder.command.Command.{Command}
 use Rattle.clap.specs.declared.builder.command.Command.TheViews.{out-Command}
 use Rattle.command_line.specs.CommandLine.{files, flag, maybe, number, text, word}
