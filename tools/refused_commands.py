@@ -39,6 +39,7 @@ def commands(classes):
         (["explain", "all", *classes], 0, [], False),
         (["audit", "--entries", "Main", "lambda_Main.class"], 6, [], False),
         (["lazy", "--entries", "Main", "--stacks", "--limit", "300", *classes], 5, [], False),
+        (["inspect", "app.img"], 0, [], False),
         (["renew", "--out", "new.img", "app.img"], 0, ["new.img"], False),
         (["run", "--entries", "M,M,M", "seven.img"], 0, [], True),
         (["run", "--entries", "Main", "--journal", "run.journal", "app.img"], 0, ["run.journal"], False),
