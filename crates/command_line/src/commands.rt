@@ -140,7 +140,7 @@ const LIMIT: Argument = Argument::Number {
 
 const VERBOSE: Argument = Argument::Flag {
     name: "verbose",
-    help: "Says what a refusal means in a second line",
+    help: "Says more on standard error: what a refusal means, where threads ended, what a build came to",
 };
 
 const TURNS: Argument = Argument::Flag {
