@@ -96,20 +96,26 @@ fn cures_text(alloc: Global, verdicts: &[Verdict]) -> Result<String, AllocError>
     Ok(text)
 }
 
-/// Tells what can be done about the reasons that stand in a build, where it is wanted what it comes to. Where memory is
-/// refused for it, it is not told.
-pub(crate) fn tell_cures<H: Watch>(alloc: Global, built: &Built, watch: &H) {
-    if watch.wants_totals()
-        && let Ok(text) = cures_text(alloc, built.verdicts.as_slice())
-    {
-        watch.built(text.as_str());
-    }
+/// What can be done about the reasons that stand, and then what a build comes to.
+fn cures_and_totals(alloc: Global, built: &Built) -> Result<String, AllocError> {
+    let mut text = cures_text(alloc, built.verdicts.as_slice())?;
+    text.push_str(&totals_text(alloc, built)?)?;
+    Ok(text)
 }
 
 /// Tells what a build comes to, where that is wanted. Where memory is refused for it, it is not told.
 pub(crate) fn tell_totals<H: Watch>(alloc: Global, built: &Built, watch: &H) {
     if watch.wants_totals()
         && let Ok(text) = totals_text(alloc, built)
+    {
+        watch.built(text.as_str());
+    }
+}
+
+/// Tells the same, after what can be done about the reasons that stand.
+pub(crate) fn tell_cures_and_totals<H: Watch>(alloc: Global, built: &Built, watch: &H) {
+    if watch.wants_totals()
+        && let Ok(text) = cures_and_totals(alloc, built)
     {
         watch.built(text.as_str());
     }

@@ -46,7 +46,7 @@ pub trait Watch {
     /// Whether it is to be told what the build came to.
     fn wants_totals(&self) -> bool;
 
-    /// What the build came to, in words, which begin where those end that came before.
+    /// What the build came to, in words.
     fn built(&self, totals: &str);
 
     /// The line on what the build came to, and on what it took. None where that is not wanted, or not known.
