@@ -3,6 +3,7 @@ use Rattle.std.proofs.Common.{◌≡◌, ◌⊎◌, ◌∙◌, ℕ, zero, suc, �
 use Rattle.std.proofs.Common.{Option, Some, None, MatchOption, IfSome, append_assoc, inl, inr, refl, sym, ap, subst, arith}
 use Rattle.std.specs.List.{All}
 use Rattle.std.proofs.lemmas.Bool.{cases_lt}
+use Rattle.std.proofs.lemmas.List.Elements.{All-cons, All-nil}
 use Rattle.std.proofs.lemmas.List.{append-nil, get_or_past, length-set}
 use Rattle.inspection.specs.Largest.{AreLargest, IsGreatest, size_at}
 use Rattle.inspection.specs.declared.largest.Best.{Best}
@@ -142,15 +143,16 @@ completes_last most sizes count left places all so_far =
 -- each is one of the sizes
 pub largest_within : (most : ℕ) (sizes places : List ℕ) → AreLargest most sizes places
     → All (λ (c : ℕ). c < length sizes) places
-largest_within zero sizes places are = subst (λ (l : List ℕ). All (λ (c : ℕ). c < length sizes) l) (sym are) tt
+largest_within zero sizes places are =
+    subst (λ (l : List ℕ). All (λ (c : ℕ). c < length sizes) l) (sym are) (All-nil (λ (c : ℕ). c < length sizes))
 largest_within (suc most) sizes places are = elim are [
-  | inl none ↦ subst (λ (l : List ℕ). All (λ (c : ℕ). c < length sizes) l) (sym none.1) tt
+  | inl none ↦
+      subst (λ (l : List ℕ). All (λ (c : ℕ). c < length sizes) l) (sym none.1) (All-nil (λ (c : ℕ). c < length sizes))
   | inr some ↦
       let c = some.0 in
       let rest = some.1 in
       let others = largest_within most (set sizes c 0) rest some.3 in
-      subst (λ (l : List ℕ). All (λ (c : ℕ). c < length sizes) l) (sym some.4) (
-        greatest_within sizes c some.2,
-        subst (λ (n : ℕ). All (λ (c : ℕ). c < n) rest) (length-set sizes c 0) others,
-      )
+      subst (λ (l : List ℕ). All (λ (c : ℕ). c < length sizes) l) (sym some.4)
+      (All-cons (λ (d : ℕ). d < length sizes) c rest (greatest_within sizes c some.2)
+      (subst (λ (n : ℕ). All (λ (d : ℕ). d < n) rest) (length-set sizes c 0) others))
 ]

@@ -34,13 +34,20 @@ abbrev pub objects_below : ImageTables → ℕ → ℕ
 objects_below I zero = 0
 objects_below I (suc c) = objects_below I c + object_count (environment_of I.regions c)
 
-abbrev pub head_text : List ℕ → ImageTables → List ℕ
-head_text bytes I = codes "version " ++ (decimal (version_in bytes)
+-- the version, the digest and the length of bytes
+abbrev pub identity_text : List ℕ → List ℕ
+identity_text bytes = codes "version " ++ (decimal (version_in bytes)
     ++ (codes "\ndigest " ++ (flat_map hex_of (digest_in bytes)
-    ++ (codes "\nbytes " ++ (decimal (length bytes)
-    ++ (codes "\nclasses " ++ (decimal (length I.program.family)
+    ++ (codes "\nbytes " ++ (decimal (length bytes) ++ codes "\n")))))
+
+-- how many classes there are, how many of them have a region, and how many objects
+abbrev pub counts_text : ImageTables → List ℕ
+counts_text I = codes "classes " ++ (decimal (length I.program.family)
     ++ (codes " built " ++ (decimal (built_below I (length I.program.family))
-    ++ (codes " objects " ++ (decimal (objects_below I (length I.program.family)) ++ codes "\n")))))))))))
+    ++ (codes " objects " ++ (decimal (objects_below I (length I.program.family)) ++ codes "\n")))))
+
+abbrev pub head_text : List ℕ → ImageTables → List ℕ
+head_text bytes I = identity_text bytes ++ counts_text I
 
 -- ---- classes
 
@@ -68,10 +75,14 @@ largest_line I c =
 
 -- ---- all
 
+-- the head, a line for each class, and a line for each of these
+abbrev pub text_on : List ℕ → ImageTables → List ℕ → List ℕ
+text_on bytes I largest = head_text bytes I
+    ++ (lines_below I (length I.program.family) ++ flat_map (largest_line I) largest)
+
 -- What is said of an image, of the bytes that are its text: the head, a line for each class, and a line for each of the
 -- ten classes with the most bytes.
 pub record IsInspection (bytes : List ℕ) (I : ImageTables) (text : List ℕ) : Type 0 where
   pub largest : List ℕ
   pub are : AreLargest 10 (region_sizes I) largest
-  pub is : text ≡ head_text bytes I
-      ++ (lines_below I (length I.program.family) ++ flat_map (largest_line I) largest)
+  pub is : text ≡ text_on bytes I largest

@@ -1,9 +1,9 @@
 //! What is said of an image as a whole.
 
-ghost use Rattle.std.specs.Prelude.{◌≡◌, IfOk, if◌then◌else◌, is_some};
+ghost use Rattle.std.specs.Prelude.{◌≡◌, IfOk, if◌then◌else◌, is_some, length};
 ghost use Rattle.std.specs.String.{string_bytes};
 ghost use Rattle.region_shape.specs.Regions.{environment_of};
-ghost use Rattle.inspection.specs.Texts.{built_below, head_text, objects_below};
+ghost use Rattle.inspection.specs.Texts.{built_below, counts_text, head_text, identity_text, objects_below};
 
 use crate::digest::{digest_text, version_of};
 use object_graph::Image;
@@ -41,17 +41,32 @@ fn objects_below(image: &Image, count: u32) -> u64
     objects
 }
 
-/// The lines on an image as a whole, of the bytes that are its text.
-pub(crate) fn head_text(alloc: Global, bytes: &[u8], image: &Image) -> Result<String, AllocError>
-    ensures { IfOk result (λ text. string_bytes text ≡ head_text bytes.now image.now) }
+/// The version, the digest and the length of bytes that are the text of an image.
+fn identity_text(alloc: Global, bytes: &[u8]) -> Result<String, AllocError>
+    ensures { IfOk result (λ text. string_bytes text ≡ identity_text bytes.now) }
 {
     let version = version_of(bytes);
     let digest = digest_text(alloc, bytes)?;
     let length = bytes.len();
-    let count = image.program().family().classes().len() as u32;
+    format!(in alloc; "version {version}\ndigest {digest}\nbytes {length}\n")
+}
+
+/// How many classes an image has, how many of them have a region, and how many objects.
+fn counts_text(alloc: Global, image: &Image, count: u32) -> Result<String, AllocError>
+    requires { count ≡ length image.now.program.family }
+    ensures { IfOk result (λ text. string_bytes text ≡ counts_text image.now) }
+{
     let built = built_below(image, count);
     let objects = objects_below(image, count);
-    format!(in alloc;
-        "version {version}\ndigest {digest}\nbytes {length}\nclasses {count} built {built} objects {objects}\n"
-    )
+    format!(in alloc; "classes {count} built {built} objects {objects}\n")
+}
+
+/// The lines on an image as a whole, of the bytes that are its text.
+pub(crate) fn head_text(alloc: Global, bytes: &[u8], image: &Image) -> Result<String, AllocError>
+    ensures { IfOk result (λ text. string_bytes text ≡ head_text bytes.now image.now) }
+{
+    let classes = image.program().family().classes();
+    let counts = counts_text(alloc, image, classes.len() as u32)?;
+    let identity = identity_text(alloc, bytes)?;
+    format!(in alloc; "{identity}{counts}")
 }
