@@ -29,7 +29,8 @@ fn count_left(left: &mut Vec<Left>, reason: Reason) -> Result<(), AllocError> {
         word,
         cure: cure_of(reason),
         count: 1,
-    })
+    })?;
+    Ok(())
 }
 
 /// How many classes are left by each reason, each with the first of its classes.

@@ -13,7 +13,8 @@ fn add_last(runs: &mut Vec<(u32, u64)>, thread: u32, steps: u64) -> Result<(), A
     if steps == 0 {
         return Ok(());
     }
-    runs.push((thread, steps))
+    runs.push((thread, steps))?;
+    Ok(())
 }
 
 /// Adds the runs of the first steps of a schedule, at most so many, where there are no runs yet.
