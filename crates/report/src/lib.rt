@@ -8,4 +8,4 @@ mod words;
 
 pub use lines::verdict_text;
 pub use rendering::render;
-pub use words::reason_text;
+pub use words::{class_text, reason_text};

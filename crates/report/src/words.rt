@@ -11,7 +11,10 @@ use loading::names::name_of;
 use std::alloc::{AllocError, Global};
 
 /// The name of a given class with slashes, for a reader.
-pub(crate) fn class_text(alloc: Global, family: &Family, class: u32) -> Result<String, AllocError>
+///
+/// # Errors
+/// Where memory runs out.
+pub fn class_text(alloc: Global, family: &Family, class: u32) -> Result<String, AllocError>
     ensures { IfOk result (λ text. string_bytes text ≡ class_text family.now class) }
 {
     match family.file(class) {

@@ -1,0 +1,139 @@
+//! A picture of the classes for whose sake others stay at run time, each with some of those that depend on it.
+
+use crate::drawing::{HEIGHT, Link, Node, Picture, Point};
+use explain::{Blamed, Overview};
+use initializer_analysis::verdict::{Reason, Verdict};
+use std::alloc::{AllocError, Global};
+
+/// How many classes a picture has, how many of those that depend on one, and how many levels of these.
+const MOST: usize = 40;
+const MOST_OF_ONE: u32 = 4;
+const LEVELS: u32 = 5;
+
+/// How far one level is to the right of the one before, and a row below the one before.
+const INDENT: u32 = 34;
+const ROW: u32 = 30;
+
+/// A class that is to be drawn, below the one on which it depends.
+#[derive(Clone, Copy)]
+struct Waiting {
+    class: u32,
+    level: u32,
+    /// How many others stay for its sake, where it depends on none.
+    others: Option<u64>,
+    /// Where the box of the one stands on which it depends.
+    above: Option<Point>,
+}
+
+/// Whether a verdict is that a class depends on another.
+fn depends_on(verdict: Verdict, class: u32) -> bool {
+    match verdict {
+        Verdict::Refused(Reason::DependsOn(other)) => other == class,
+        _ => false,
+    }
+}
+
+/// Adds those that depend on a class, up to a few, in the order of their numbers from the last on.
+fn add_dependents(
+    verdicts: &[Verdict],
+    of: Waiting,
+    at: Point,
+    waiting: &mut Vec<Waiting>,
+) -> Result<(), AllocError> {
+    let mut few = 0;
+    for (class, verdict) in verdicts.iter().enumerate() {
+        if few < MOST_OF_ONE && depends_on(*verdict, of.class) {
+            few += 1;
+            waiting.push(
+                Waiting {
+                    class: class as u32,
+                    level: of.level.saturating_add(1),
+                    others: None,
+                    above: Some(at),
+                },
+            )?;
+        }
+    }
+    Ok(())
+}
+
+/// The curve from the box of a class down to the box of one that depends on it.
+fn link_between(above: Point, at: Point) -> Link {
+    let x = above.x.saturating_add(14);
+    let y = at.y.saturating_add(HEIGHT / 2);
+    Link {
+        from: Point {
+            x,
+            y: above.y.saturating_add(HEIGHT),
+        },
+        first: Point { x, y },
+        second: Point { x, y },
+        to: Point { x: at.x, y },
+    }
+}
+
+/// Adds a class to a picture, and those that depend on it to what is to be drawn.
+fn draw(
+    verdicts: &[Verdict],
+    next: Waiting,
+    row: u32,
+    waiting: &mut Vec<Waiting>,
+    picture: &mut Picture,
+) -> Result<(), AllocError> {
+    let at = Point {
+        x: next.level.saturating_mul(INDENT).saturating_add(1),
+        y: row.saturating_mul(ROW).saturating_add(1),
+    };
+    if let Some(above) = next.above {
+        picture.links.push(link_between(above, at))?;
+    }
+    picture.add(
+        Node {
+            class: next.class,
+            x: at.x,
+            y: at.y,
+            number: next.others,
+        },
+    )?;
+    if next.level < LEVELS {
+        add_dependents(verdicts, next, at, waiting)?;
+    }
+    Ok(())
+}
+
+/// Draws what waits, up to so many classes.
+fn draw_all(
+    verdicts: &[Verdict],
+    waiting: &mut Vec<Waiting>,
+    picture: &mut Picture,
+) -> Result<(), AllocError> {
+    for row in 0..MOST {
+        let Some(next) = waiting.pop() else {
+            return Ok(());
+        };
+        draw(verdicts, next, row as u32, waiting, picture)?;
+    }
+    Ok(())
+}
+
+/// The picture of these classes, each with how many others stay at run time for its sake.
+pub(crate) fn forest(
+    alloc: Global,
+    verdicts: &[Verdict],
+    roots: &[Blamed],
+) -> Result<Picture, AllocError> {
+    let mut picture = Picture::none(alloc);
+    let mut waiting = Vec::new(alloc);
+    for root in roots.iter().rev() {
+        waiting.push(
+            Waiting {
+                class: root.class as u32,
+                level: 0,
+                others: Some(u64::from(root.others)),
+                above: None,
+            },
+        )?;
+    }
+    draw_all(verdicts, &mut waiting, &mut picture)?;
+    Ok(picture)
+}
