@@ -20,7 +20,7 @@ pub costs_more : (I : ImageTables) (verdicts : List Verdict) (greatest n : ℕ) 
 costs_more I verdicts greatest n verdict costs more count before at one c low = elim (below c n low) [
   | inl same ↦
       subst (λ (m : ℕ). (v : Verdict) → slice_get verdicts m ≡ Some v
-          → IsCostOf I greatest m v (get_or (costs ++ more ∷ []) m None)) (sym same)
+      → IsCostOf I greatest m v (get_or (costs ++ more ∷ []) m None)) (sym same)
       (λ v is. subst (λ (o : Option Cost). IsCostOf I greatest n v o) (sym (get_or_push costs more None n count))
       (let equal : verdict ≡ v = cc in subst (λ (w : Verdict). IsCostOf I greatest n w more) equal one))
   | inr less ↦ λ v is.

@@ -30,7 +30,7 @@ pub use explaining::{Explanation, Knowledge};
 pub use lines::{all_text, class_text};
 pub use marks::{ShownMark, ShownMarks};
 pub use overview::Overview;
-pub use run_lines::cost_text;
 pub use reruns::{Rerun, run_again};
+pub use run_lines::cost_text;
 pub use sizes::region_size;
 pub use stops::stop_within;

@@ -1,0 +1,4 @@
+pub mod Escapes
+pub mod Pictures
+pub mod Rows
+pub mod Pages

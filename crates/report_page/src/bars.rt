@@ -1,16 +1,34 @@
 //! Pictures of numbers as bars.
 
+ghost use Rattle.std.specs.Prelude.{◌≡◌, IfOk, string_bytes};
+ghost use Rattle.std.specs.List.{flat_map};
+ghost use Rattle.report_page.specs.Pictures.{bar_text, bars_text};
+
+use crate::escaping::escaped;
 use std::alloc::{AllocError, Global};
 
-/// A bar with its label, which is text in HTML already.
+/// A bar, with its places: how long it is, where it begins from above, where its texts stand, and where its count is
+/// from the left.
 #[derive(Drop)]
 pub(crate) struct Bar {
     pub(crate) label: String,
     pub(crate) count: u64,
+    pub(crate) length: u64,
+    pub(crate) y: u32,
+    pub(crate) base: u32,
+    pub(crate) after: u64,
 }
 
-/// How high a bar is with the room above it, and how long the longest one.
+/// Bars, one below the other, and how high they are in all.
+#[derive(Drop)]
+pub(crate) struct Bars {
+    pub(crate) bars: Vec<Bar>,
+    pub(crate) height: u32,
+}
+
+/// How high a bar is with the room below it, and how long the longest one.
 const STEP: u32 = 22;
+
 const LONGEST: u64 = 180;
 
 /// How long a bar is beside the longest one.
@@ -21,36 +39,84 @@ fn length_of(count: u64, greatest: u64) -> u64 {
     count.min(greatest).saturating_mul(LONGEST) / greatest
 }
 
-/// The greatest count of some bars.
-fn greatest_of(bars: &[Bar]) -> u64 {
-    let mut greatest = 0;
-    for bar in bars {
-        greatest = bar.count.max(greatest);
+impl Bars {
+    /// No bars.
+    pub(crate) fn none(alloc: Global) -> Bars {
+        Bars {
+            bars: Vec::new(alloc),
+            height: 0,
+        }
     }
-    greatest
+
+    /// Adds a bar below the others.
+    pub(crate) fn add(&mut self, label: String, count: u64) -> Result<(), AllocError> {
+        let y = self.height;
+        self.bars.push(Bar {
+            label,
+            count,
+            length: 0,
+            y,
+            base: y.saturating_add(15),
+            after: 0,
+        })?;
+        self.height = y.saturating_add(STEP);
+        Ok(())
+    }
+
+    /// The greatest count.
+    fn greatest(&self) -> u64 {
+        let mut greatest = 0;
+        for bar in self.bars.as_slice() {
+            greatest = bar.count.max(greatest);
+        }
+        greatest
+    }
+
+    /// Makes each bar as long as its count is, beside the greatest one.
+    pub(crate) fn fit(&mut self) {
+        let greatest = self.greatest();
+        for bar in self.bars.as_mut_slice() {
+            bar.length = length_of(bar.count, greatest);
+            bar.after = bar.length.saturating_add(136);
+        }
+    }
 }
 
-/// A bar at a height.
-fn bar_text(alloc: Global, bar: &Bar, length: u64, y: u32) -> Result<String, AllocError> {
-    let label = bar.label.as_str();
+/// A bar.
+fn bar_text(alloc: Global, bar: &Bar) -> Result<String, AllocError>
+    ensures { IfOk result (λ text. string_bytes text ≡ bar_text bar.now) }
+{
+    let label = escaped(alloc, bar.label.as_str())?;
     let count = bar.count;
-    let base = y.saturating_add(15);
-    let after = length.saturating_add(136);
+    let length = bar.length;
+    let y = bar.y;
+    let base = bar.base;
+    let after = bar.after;
     format!(in alloc;
         "<text x=\"122\" y=\"{base}\" class=\"e\">{label}</text><rect x=\"130\" y=\"{y}\" width=\"{length}\" \
-         height=\"20\"/><text x=\"{after}\" y=\"{base}\" class=\"n\">{count}</text>\n")
+         height=\"20\"/><text x=\"{after}\" y=\"{base}\" class=\"n\">{count}</text>\n"
+    )
 }
 
-/// A picture of bars, one below the other.
-pub(crate) fn bars_text(alloc: Global, bars: &[Bar]) -> Result<String, AllocError> {
-    let greatest = greatest_of(bars);
-    let mut y = 0u32;
+/// All bars.
+fn drawn(alloc: Global, bars: &[Bar]) -> Result<String, AllocError>
+    ensures { IfOk result (λ text. string_bytes text ≡ flat_map bar_text bars.now) }
+{
     let mut drawn = String::new(alloc);
     for bar in bars {
-        let text = bar_text(alloc, bar, length_of(bar.count, greatest), y)?;
+        let text = bar_text(alloc, bar)?;
         drawn.push_str(text.as_str())?;
-        y = y.saturating_add(STEP);
     }
-    let drawn = drawn.as_str();
-    format!(in alloc; "<svg class=\"bars\" viewBox=\"0 0 380 {y}\" role=\"img\">\n{drawn}</svg>\n")
+    Ok(drawn)
+}
+
+/// A picture of bars.
+pub(crate) fn bars_text(alloc: Global, bars: &Bars) -> Result<String, AllocError>
+    ensures { IfOk result (λ text. string_bytes text ≡ bars_text bars.now) }
+{
+    let drawn = drawn(alloc, bars.bars.as_slice())?;
+    let height = bars.height;
+    format!(in alloc;
+        "<svg class=\"bars\" viewBox=\"0 0 380 {height}\" role=\"img\">\n{drawn}</svg>\n"
+    )
 }

@@ -1,17 +1,20 @@
 //! A picture of the classes for whose sake others stay at run time, each with some of those that depend on it.
 
-use crate::drawing::{HEIGHT, Link, Node, Picture, Point};
-use explain::{Blamed, Overview};
+use crate::drawing::{HEIGHT, Link, Picture, Point};
+use explain::Blamed;
 use initializer_analysis::verdict::{Reason, Verdict};
 use std::alloc::{AllocError, Global};
 
 /// How many classes a picture has, how many of those that depend on one, and how many levels of these.
 const MOST: usize = 40;
+
 const MOST_OF_ONE: u32 = 4;
+
 const LEVELS: u32 = 5;
 
 /// How far one level is to the right of the one before, and a row below the one before.
 const INDENT: u32 = 34;
+
 const ROW: u32 = 30;
 
 /// A class that is to be drawn, below the one on which it depends.
@@ -44,14 +47,12 @@ fn add_dependents(
     for (class, verdict) in verdicts.iter().enumerate() {
         if few < MOST_OF_ONE && depends_on(*verdict, of.class) {
             few += 1;
-            waiting.push(
-                Waiting {
-                    class: class as u32,
-                    level: of.level.saturating_add(1),
-                    others: None,
-                    above: Some(at),
-                },
-            )?;
+            waiting.push(Waiting {
+                class: class as u32,
+                level: of.level.saturating_add(1),
+                others: None,
+                above: Some(at),
+            })?;
         }
     }
     Ok(())
@@ -87,14 +88,7 @@ fn draw(
     if let Some(above) = next.above {
         picture.links.push(link_between(above, at))?;
     }
-    picture.add(
-        Node {
-            class: next.class,
-            x: at.x,
-            y: at.y,
-            number: next.others,
-        },
-    )?;
+    picture.add(next.class, next.others, at)?;
     if next.level < LEVELS {
         add_dependents(verdicts, next, at, waiting)?;
     }
@@ -125,14 +119,12 @@ pub(crate) fn forest(
     let mut picture = Picture::none(alloc);
     let mut waiting = Vec::new(alloc);
     for root in roots.iter().rev() {
-        waiting.push(
-            Waiting {
-                class: root.class as u32,
-                level: 0,
-                others: Some(u64::from(root.others)),
-                above: None,
-            },
-        )?;
+        waiting.push(Waiting {
+            class: root.class as u32,
+            level: 0,
+            others: Some(u64::from(root.others)),
+            above: None,
+        })?;
     }
     draw_all(verdicts, &mut waiting, &mut picture)?;
     Ok(picture)

@@ -1,7 +1,8 @@
 //! How the page looks, and what its table does.
 
 /// The style sheet.
-pub(crate) const STYLE: &str = r#":root{color-scheme:light dark;--ink:#1b1f24;--soft:#5d6672;--line:#d5dae0;
+pub(crate) const STYLE: &str =
+    r#":root{color-scheme:light dark;--ink:#1b1f24;--soft:#5d6672;--line:#d5dae0;
 --face:#fff;--band:#f5f7f9;--tint:#0b5cad}
 @media(prefers-color-scheme:dark){:root{--ink:#e4e8ed;--soft:#9aa4b0;--line:#363d46;
 --face:#15181c;--band:#1d2126;--tint:#6cb2f5}}

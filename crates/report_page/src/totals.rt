@@ -1,6 +1,10 @@
 //! Totals of a build: of all classes, by waves and by reasons.
 
-use crate::bars::Bar;
+ghost use Rattle.std.specs.Prelude.{◌≡◌, IfOk, string_bytes};
+ghost use Rattle.explain.specs.Costs.{AreDearestFirst};
+ghost use Rattle.report_page.specs.Pages.{total_text, totals_text, AreTotals};
+
+use crate::bars::Bars;
 use explain::Cost;
 use initializer_analysis::verdict::{Reason, Verdict};
 use std::alloc::{AllocError, Global};
@@ -39,9 +43,12 @@ const REASONS: [Reason; 14] = [
 ];
 
 /// What is counted of all classes, by what the accepted ones cost.
-pub(crate) fn totals_of(classes: usize, dearest: &[Cost]) -> Totals {
+pub(crate) fn totals_of(verdicts: &[Verdict], costs: &[Option<Cost>], dearest: &[Cost]) -> Totals
+    requires { AreDearestFirst costs.now dearest.now }
+    ensures { AreTotals verdicts.now costs.now result }
+{
     let mut totals = Totals {
-        classes: classes as u64,
+        classes: verdicts.len() as u64,
         built: dearest.len() as u64,
         cost: 0,
         made: 0,
@@ -58,12 +65,16 @@ pub(crate) fn totals_of(classes: usize, dearest: &[Cost]) -> Totals {
 }
 
 /// One of the totals.
-fn total_text(alloc: Global, name: &str, number: u64) -> Result<String, AllocError> {
+fn total_text(alloc: Global, name: &str, number: u64) -> Result<String, AllocError>
+    ensures { IfOk result (λ text. string_bytes text ≡ total_text name.now number) }
+{
     format!(in alloc; "<div><dt>{name}</dt><dd>{number}</dd></div>")
 }
 
 /// The totals.
-pub(crate) fn totals_text(alloc: Global, totals: Totals) -> Result<String, AllocError> {
+pub(crate) fn totals_text(alloc: Global, totals: Totals) -> Result<String, AllocError>
+    ensures { IfOk result (λ text. string_bytes text ≡ totals_text totals) }
+{
     let classes = total_text(alloc, "classes", totals.classes)?;
     let built = total_text(alloc, "built", totals.built)?;
     let left = totals.classes.saturating_sub(totals.built);
@@ -89,21 +100,19 @@ fn wave_count(verdicts: &[Verdict], from: usize, to: usize) -> u64 {
 }
 
 /// A bar for each wave, and one for all that are above these.
-pub(crate) fn wave_bars(alloc: Global, verdicts: &[Verdict]) -> Result<Vec<Bar>, AllocError> {
-    let mut bars = Vec::new(alloc);
+pub(crate) fn wave_bars(alloc: Global, verdicts: &[Verdict]) -> Result<Bars, AllocError> {
+    let mut bars = Bars::none(alloc);
     for wave in 0..WAVES {
         let count = wave_count(verdicts, wave, wave.saturating_add(1));
-        if count == 0 {
-            return Ok(bars);
+        if count > 0 {
+            bars.add(format!(in alloc; "wave {wave}")?, count)?;
         }
-        let label = format!(in alloc; "wave {wave}")?;
-        bars.push(Bar { label, count })?;
     }
     let count = wave_count(verdicts, WAVES, usize::MAX);
     if count > 0 {
-        let label = format!(in alloc; "wave {WAVES} and above")?;
-        bars.push(Bar { label, count })?;
+        bars.add(format!(in alloc; "wave {WAVES} and above")?, count)?;
     }
+    bars.fit();
     Ok(bars)
 }
 
@@ -121,15 +130,15 @@ fn reason_count(verdicts: &[Verdict], word: &str) -> u64 {
 }
 
 /// A bar for each reason that a class stays at run time for.
-pub(crate) fn reason_bars(alloc: Global, verdicts: &[Verdict]) -> Result<Vec<Bar>, AllocError> {
-    let mut bars = Vec::new(alloc);
+pub(crate) fn reason_bars(alloc: Global, verdicts: &[Verdict]) -> Result<Bars, AllocError> {
+    let mut bars = Bars::none(alloc);
     for reason in REASONS {
         let word = reason.word();
         let count = reason_count(verdicts, word);
         if count > 0 {
-            let label = String::from_str(alloc, word)?;
-            bars.push(Bar { label, count })?;
+            bars.add(String::from_str(alloc, word)?, count)?;
         }
     }
+    bars.fit();
     Ok(bars)
 }

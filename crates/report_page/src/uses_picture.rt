@@ -8,10 +8,12 @@ use std::alloc::{AllocError, Global};
 
 /// How many classes a picture has, and how many columns.
 const MOST: usize = 40;
+
 const COLUMNS: usize = 6;
 
 /// How far a column is to the right of the one before, and a row below the one before.
 const COLUMN: u32 = 350;
+
 const ROW: u32 = 32;
 
 /// The wave of a class, and 0 where it has none.
@@ -38,11 +40,7 @@ fn add_wave(waves: &mut Vec<usize>, wave: usize) -> Result<(), AllocError> {
 }
 
 /// The waves of some classes, each once, in ascending order.
-fn waves_of(
-    alloc: Global,
-    verdicts: &[Verdict],
-    shown: &[Cost],
-) -> Result<Vec<usize>, AllocError> {
+fn waves_of(alloc: Global, verdicts: &[Verdict], shown: &[Cost]) -> Result<Vec<usize>, AllocError> {
     let mut waves = Vec::new(alloc);
     for found in shown {
         add_wave(&mut waves, wave_of(verdicts, found.class))?;
@@ -73,14 +71,11 @@ fn add_nodes(
         let column = column_of(waves.as_slice(), wave_of(verdicts, found.class));
         let row = rows[column];
         rows[column] = row.saturating_add(1);
-        picture.add(
-            Node {
-                class: found.class,
-                x: (column as u32).saturating_mul(COLUMN).saturating_add(1),
-                y: row.saturating_mul(ROW).saturating_add(1),
-                number: Some(found.cost),
-            },
-        )?;
+        let at = Point {
+            x: (column as u32).saturating_mul(COLUMN).saturating_add(1),
+            y: row.saturating_mul(ROW).saturating_add(1),
+        };
+        picture.add(found.class, Some(found.cost), at)?;
     }
     Ok(())
 }
