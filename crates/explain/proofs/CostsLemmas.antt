@@ -44,4 +44,5 @@ dearer_ranks =
 
 pub sorted_fall : (costs : List Cost) → IsSortedBy dearer costs → AreFalling costs
 sorted_fall costs sorted i j d low within =
-    ge_from_not_lt (get_or costs i d).cost (get_or costs j d).cost (sorted_far dearer dearer_ranks costs sorted i j d low within)
+    ge_from_not_lt (get_or costs i d).cost (get_or costs j d).cost
+    (sorted_far dearer dearer_ranks costs sorted i j d low within)

@@ -52,7 +52,8 @@ pictures_text family left built = codes "<section><h2>What depends on what, left
 -- ---- the page
 
 abbrev pub page_text : List ℕ → List ℕ → List ℕ → List ℕ → List ℕ → List ℕ
-page_text style numbers pictures rows script = codes "<!DOCTYPE html>\n<html lang=\"en\"><head><meta charset=\"utf-8\">\n"
+page_text style numbers pictures rows script =
+    codes "<!DOCTYPE html>\n<html lang=\"en\"><head><meta charset=\"utf-8\">\n"
     ++ (codes "<meta name=\"viewport\" content=\"width=device-width,initial-scale=1\">\n"
     ++ (codes "<title>Preinit: report</title>\n<style>\n"
     ++ (style
