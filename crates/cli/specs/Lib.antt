@@ -23,3 +23,4 @@ pub mod Outputs
 pub mod Audits
 pub mod Explanations
 pub mod Lists
+pub mod Pages

@@ -50,7 +50,11 @@ fn patterns_of(alloc: Global, list: Option<&str>) -> Result<Patterns, OptionFaul
 }
 
 /// The classes that a list forces to run time.
-fn forced_by(alloc: Global, program: &Program, list: Option<&str>) -> Result<Forced, OptionFault>
+pub(crate) fn forced_by(
+    alloc: Global,
+    program: &Program,
+    list: Option<&str>,
+) -> Result<Forced, OptionFault>
     ensures { IfOk result
         (λ forced. AreClasses forced (IsForced program.now.family (patterns_in (text_of list.entry)))) }
 {
@@ -113,7 +117,13 @@ fn explanation_of_all(
     requires { GiveWaves built.now.image built.now.verdicts }
     ensures { IfOk result (λ text. IsAllText built.now.image built.now.verdicts forced.now budget text.items) }
 {
-    let text = all_text(alloc, &built.image, built.verdicts.as_slice(), forced, budget)?;
+    let text = all_text(
+        alloc,
+        &built.image,
+        built.verdicts.as_slice(),
+        forced,
+        budget,
+    )?;
     Ok(text.into_bytes())
 }
 

@@ -10,7 +10,7 @@ ghost use Rattle.cli.specs.ImageBuilds.{AreAtMost, IsBuiltText};
 ghost use Rattle.cli.specs.Outputs.{IsReportApart};
 ghost use Rattle.cli.specs.Runs.{texts_of};
 
-use crate::build_texts::{build_texts, image_bytes, write_texts};
+use crate::build_texts::{Wanted, build_texts, image_bytes, write_texts};
 use crate::builds::build;
 use crate::files::contents;
 use crate::requested::{options_of, refusal_of};
@@ -80,7 +80,10 @@ pub(crate) fn run<R: Threads + Wait + Sync, F: Files, H: Watch + Sync>(
     let options = options_of(building);
     watch.begin(Stage::Building);
     let gate = Watched { watch };
-    let reports = words.report.is_some();
+    let wanted = Wanted {
+        report: words.report.is_some(),
+        page: words.page.is_some(),
+    };
     match build_texts(
         rt,
         alloc,
@@ -88,7 +91,7 @@ pub(crate) fn run<R: Threads + Wait + Sync, F: Files, H: Watch + Sync>(
         &options,
         words.workers,
         &gate,
-        reports,
+        wanted,
     ) {
         Ok(made) => {
             watch.begin(Stage::Writing);

@@ -16,7 +16,7 @@ files_of (requests.Audit words) = words.files.items
 files_of (requests.Build words) = words.building.files.items
 files_of (requests.Explain words) = words.building.files.items
 files_of (requests.Lazy words) = words.files.items
-files_of (requests.Report words) = words.files.items
+files_of (requests.Report words) = words.building.files.items
 files_of _ = []
 
 -- the same build of other class files
@@ -31,5 +31,6 @@ with_files (requests.Build words) files =
 with_files (requests.Explain words) files =
     requests.Explain (record words { building = building_with words.building files })
 with_files (requests.Lazy words) files = requests.Lazy (record words { files = files })
-with_files (requests.Report words) files = requests.Report (building_with words files)
+with_files (requests.Report words) files =
+    requests.Report (record words { building = building_with words.building files })
 with_files request _ = request

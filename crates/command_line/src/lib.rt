@@ -13,4 +13,4 @@ mod texts;
 
 pub use fault::WordsFault;
 pub use matched::line;
-pub use request::{Audit, Build, Building, Explain, Lazy, Renew, Replay, Request, Run};
+pub use request::{Audit, Build, Building, Explain, Lazy, Renew, Replay, Report, Request, Run};

@@ -5,13 +5,15 @@ ghost use Rattle.clap.specs.Simple.{app_of};
 ghost use Rattle.clap.specs.Walk.{first_of, rows_of};
 ghost use Rattle.command_line.specs.CommandLine.{preinit};
 ghost use Rattle.command_line.specs.Requests.{Holds, HoldsAudit, HoldsBits, HoldsBuild, HoldsBuilding, HoldsExplain};
-ghost use Rattle.command_line.specs.Requests.{HoldsFlag, HoldsLazy, HoldsNumber, HoldsRenew, HoldsReplay, HoldsRun};
+ghost use Rattle.command_line.specs.Requests.{HoldsFlag, HoldsLazy, HoldsNumber, HoldsRenew, HoldsReplay, HoldsReport, HoldsRun};
 ghost use Rattle.command_line.specs.Requests.{IsFaultOf, IsLine, text_in, texts, values_of};
 ghost use Rattle.command_line.specs.steps.Faults.{AskedByMatches, IsWhatHolds, SaysKind};
 
 use crate::commands::program;
 use crate::parsed::fault_of;
-use crate::{Audit, Build, Building, Explain, Lazy, Renew, Replay, Request, Run, WordsFault};
+use crate::{
+    Audit, Build, Building, Explain, Lazy, Renew, Replay, Report, Request, Run, WordsFault,
+};
 use clap::error::ErrorKind;
 use clap::{ArgMatches, Command};
 use std::alloc::{AllocError, Global};
@@ -76,7 +78,7 @@ fn asked_of<'a>(
         "lazy" => Ok(lazy_of(alloc, arguments)?.map(Request::Lazy)),
         "renew" => Ok(renew_of(arguments).map(Request::Renew)),
         "replay" => Ok(replay_of(arguments).map(Request::Replay)),
-        "report" => Ok(building_of(alloc, arguments)?.map(Request::Report)),
+        "report" => Ok(report_of(alloc, arguments)?.map(Request::Report)),
         "run" => Ok(run_of(arguments).map(Request::Run)),
         _ => Ok(None),
     }
@@ -95,6 +97,7 @@ fn build_of<'a>(alloc: Global, matches: &ArgMatches<'a>) -> Result<Option<Build<
         Some(building) => Ok(Some(Build {
             image,
             report: text_of(matches, "report"),
+            page: text_of(matches, "page"),
             building,
             workers,
         })),
@@ -145,6 +148,18 @@ fn explain_of<'a>(
             Some(building) => Ok(Some(Explain { class, building })),
             None => Ok(None),
         },
+        None => Ok(None),
+    }
+}
+
+fn report_of<'a>(alloc: Global, matches: &ArgMatches<'a>) -> Result<Option<Report<'a>>, AllocError>
+    ensures { IfOk result (IsWhatHolds (HoldsReport (rows_of (found_of matches.now)))) }
+{
+    match building_of(alloc, matches)? {
+        Some(building) => Ok(Some(Report {
+            page: text_of(matches, "page"),
+            building,
+        })),
         None => Ok(None),
     }
 }

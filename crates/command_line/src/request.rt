@@ -18,7 +18,7 @@ pub enum Request<'a> {
     /// `replay`: run an image by a journal.
     Replay(Replay<'a>),
     /// `report`: tell which classes are initialized at build time.
-    Report(Building<'a>),
+    Report(Report<'a>),
     /// `run`: run an image, by threads or by turns.
     Run(Run<'a>),
 }
@@ -50,10 +50,21 @@ pub struct Build<'a> {
     pub image: &'a str,
     /// The name of the file that gets the report.
     pub report: Option<&'a str>,
+    /// The name of the file that gets the page.
+    pub page: Option<&'a str>,
     /// What it is built of, and how.
     pub building: Building<'a>,
     /// How many threads of the system run initializers.
     pub workers: u32,
+}
+
+/// What the words of `report` ask for.
+#[derive(Drop)]
+pub struct Report<'a> {
+    /// The name of the file that gets the page.
+    pub page: Option<&'a str>,
+    /// The build that is asked about.
+    pub building: Building<'a>,
 }
 
 /// What the words of `build` and `report` ask for of a build.
@@ -141,7 +152,7 @@ impl<'a> Request<'a> {
             Request::Lazy(words) => words.verbose,
             Request::Renew(words) => words.verbose,
             Request::Replay(words) => words.verbose,
-            Request::Report(words) => words.verbose,
+            Request::Report(words) => words.building.verbose,
             Request::Run(words) => words.verbose,
         }
     }
@@ -155,7 +166,7 @@ impl<'a> Request<'a> {
             Request::Build(words) => words.building.files.as_slice(),
             Request::Explain(words) => words.building.files.as_slice(),
             Request::Lazy(words) => words.files.as_slice(),
-            Request::Report(words) => words.files.as_slice(),
+            Request::Report(words) => words.building.files.as_slice(),
             Request::Renew(_) | Request::Replay(_) | Request::Run(_) => &[],
         }
     }
@@ -173,6 +184,7 @@ impl<'a> Request<'a> {
             Request::Build(words) => Request::Build(Build {
                 image: words.image,
                 report: words.report,
+                page: words.page,
                 building: words.building.with_files(files),
                 workers: words.workers,
             }),
@@ -187,7 +199,10 @@ impl<'a> Request<'a> {
                 files,
                 verbose: words.verbose,
             }),
-            Request::Report(words) => Request::Report(words.with_files(files)),
+            Request::Report(words) => Request::Report(Report {
+                page: words.page,
+                building: words.building.with_files(files),
+            }),
             Request::Renew(words) => Request::Renew(words),
             Request::Replay(words) => Request::Replay(words),
             Request::Run(words) => Request::Run(words),
