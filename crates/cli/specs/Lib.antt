@@ -24,3 +24,4 @@ pub mod Audits
 pub mod Explanations
 pub mod Lists
 pub mod Pages
+pub mod Left
