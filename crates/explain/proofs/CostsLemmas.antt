@@ -1,11 +1,16 @@
 -- Costs, one class after another.
-use Rattle.std.proofs.Common.{◌≡◌, ◌∙◌, ◌⊎◌, ℕ, ◌+◌, ◌-◌, ◌^◌, ◌<◌, ◌≤◌, List, [], ◌∷◌, ◌++◌, length, get_or, Option, Some}
-use Rattle.std.proofs.Common.{None, slice_get, sym, subst, inl, inr, arith}
-use Rattle.std.specs.List.Sorted.{IsNonDecreasingBy}
+use Rattle.std.proofs.Common.{◌≡◌, ◌⊎◌, ℕ, ◌+◌, ◌<◌, List, [], ◌∷◌, ◌++◌, length, get_or, Option, Some, None}
+use Rattle.std.proofs.Common.{slice_get, sym, subst, inl, inr, arith, Bool, is_lt, nat_cmp}
+use Rattle.std.specs.Cmp.{IsStrictWeakOrder}
+use Rattle.std.specs.List.Sorted.{IsSortedBy}
+use Rattle.std.proofs.lemmas.Cmp.{nat_cmp_total}
 use Rattle.std.proofs.lemmas.List.{get_or_append_left, get_or_push}
+use Rattle.std.proofs.lemmas.List.MinMax.{IsStrictWeakOrder-flip, ranks_by}
+use Rattle.std.proofs.lemmas.List.Sorted.{sorted_far}
+use Rattle.std.proofs.lemmas.Map.Keys.{ge_from_not_lt}
 use Rattle.initializer_analysis.specs.declared.verdict.Verdict.{Verdict}
 use Rattle.object_graph.specs.Images.{ImageTables}
-use Rattle.explain.specs.Costs.{IsCostOf}
+use Rattle.explain.specs.Costs.{AreFalling, IsCostOf}
 use Rattle.explain.specs.declared.costs.Cost.{Cost}
 use Rattle.explain.specs.steps.FirstCosts.{AreFirstCosts}
 
@@ -28,12 +33,16 @@ costs_more I verdicts greatest n verdict costs more count before at one c low = 
       (sym (get_or_append_left costs (more ∷ []) None c (omega (arith, less, count)))) (before c less v is)
 ]
 
--- where what is left up to the greatest number rises, the cost falls
-pub costs_fall : (cheap : Cost → ℕ) → ((found : Cost) → cheap found + found.cost ≡ 2 ^ 64 - 1) → (dearest : List Cost)
-    → IsNonDecreasingBy cheap dearest → (i j : ℕ) (d : Cost) → i ≤ j → j < length dearest
-    → (get_or dearest j d).cost ≤ (get_or dearest i d).cost
-costs_fall cheap sum dearest rising i j d low within =
-    let rise = rising i j d low within in
-    let left = sum (get_or dearest i d) in
-    let right = sum (get_or dearest j d) in
-    omega (arith, rise, left, right)
+-- by the order that puts the greater first
+pub dearer : Cost → Cost → Bool
+dearer one other = is_lt (nat_cmp other.cost one.cost)
+
+pub dearer_ranks : IsStrictWeakOrder dearer
+dearer_ranks =
+    IsStrictWeakOrder-flip (λ (one other : Cost). is_lt (nat_cmp one.cost other.cost))
+    (ranks_by nat_cmp_total (λ (found : Cost). found.cost))
+
+pub sorted_fall : (costs : List Cost) → IsSortedBy dearer costs → AreFalling costs
+sorted_fall costs sorted i j d low within =
+    ge_from_not_lt (get_or costs i d).cost (get_or costs j d).cost
+    (sorted_far dearer dearer_ranks costs sorted i j d low within)

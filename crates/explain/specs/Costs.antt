@@ -34,11 +34,15 @@ pub record AreCosts (I : ImageTables) (verdicts : List Verdict) (greatest : ℕ)
   pub each : (c : ℕ) (verdict : Verdict) → slice_get verdicts c ≡ Some verdict
       → IsCostOf I greatest c verdict (slice_index_or costs c None)
 
--- each once, and none before one that costs more
+-- none stands before one that is greater
+abbrev pub AreFalling : List Cost → Type 0
+AreFalling costs = (i j : ℕ) (d : Cost) → i ≤ j → j < length costs
+    → (slice_index_or costs j d).cost ≤ (slice_index_or costs i d).cost
+
+-- those of the accepted classes, each once, the greatest first
 pub record AreDearestFirst (costs : List (Option Cost)) (dearest : List Cost) : Type 0 where
   pub are : IsPermutation (flat_map option_to_list costs) dearest
-  pub falling : (i j : ℕ) (d : Cost) → i ≤ j → j < length dearest
-      → (slice_index_or dearest j d).cost ≤ (slice_index_or dearest i d).cost
+  pub falling : AreFalling dearest
 
 -- ---- text
 

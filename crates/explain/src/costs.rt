@@ -1,11 +1,12 @@
 //! What the initializers of accepted classes cost and leave.
 
-ghost use Rattle.std.specs.Prelude.{◌≡◌, ◌+◌, ◌-◌, ◌^◌, ◌++◌, length, IfOk, OnOk};
+ghost use Rattle.std.specs.Prelude.{◌≡◌, ◌++◌, length, nat_cmp, IfOk, OnOk};
 ghost use Rattle.std.specs.List.{flat_map};
+ghost use Rattle.std.specs.List.Sorted.{IsPermutation};
 ghost use Rattle.std.specs.Option.{option_to_list};
 ghost use Rattle.machine.specs.Linked.{program_of};
 ghost use Rattle.region_shape.specs.Regions.{environment_of};
-ghost use Rattle.explain.specs.Costs.{AreCosts, AreDearestFirst, IsCost, IsCostOf};
+ghost use Rattle.explain.specs.Costs.{AreCosts, AreDearestFirst, AreFalling, IsCost, IsCostOf};
 ghost use Rattle.explain.specs.Reruns.{IsLeast, without};
 
 use crate::reruns::{all_regions, least_without};
@@ -15,6 +16,7 @@ use initializer_analysis::verdict::Verdict;
 use object_graph::Image;
 use region_shape::regions::Regions;
 use std::alloc::{AllocError, Global};
+use std::cmp::Ordering;
 
 /// What the initializer of an accepted class costs and leaves.
 #[derive(Clone, Copy)]
@@ -101,11 +103,19 @@ pub fn costs_of(
     Ok(costs)
 }
 
-/// How far a cost is below the greatest of all.
-fn cheapness(cost: &Cost) -> u64
-    ensures { result + cost.now.cost ≡ 2 ^ 64 - 1 }
+/// How two costs compare where the greater one stands first.
+fn by_cost(one: &Cost, other: &Cost) -> Ordering
+    ensures { result ≡ nat_cmp other.now.cost one.now.cost }
 {
-    u64::MAX - cost.cost
+    other.cost.cmp(&one.cost)
+}
+
+/// Puts costs in order, the greatest first; of equal ones the order stays.
+fn sort(costs: &mut Vec<Cost>) -> Result<(), AllocError>
+    ensures permutation { IsPermutation costs.old.items costs.new.items }
+    ensures falling { OnOk result (AreFalling costs.new.items) }
+{
+    costs.sort_by(|one, other| by_cost(one, other))
 }
 
 /// The costs of the classes that have one.
@@ -140,6 +150,6 @@ pub fn dearest_first(alloc: Global, costs: &[Option<Cost>]) -> Result<Vec<Cost>,
     ensures { IfOk result (λ dearest. AreDearestFirst costs.now dearest.items) }
 {
     let mut found = those_with_costs(alloc, costs)?;
-    found.sort_by_key(|cost| cheapness(cost))?;
+    sort(&mut found)?;
     Ok(found)
 }

@@ -1,11 +1,9 @@
 -- The page of a build.
 use Rattle.std.specs.Prelude.{◌≡◌, ℕ, ◌-◌, Bool, List, ◌++◌, length, Option, codes, decimal}
-use Rattle.std.specs.List.{flat_map}
-use Rattle.std.specs.Option.{option_to_list}
 use Rattle.loading.specs.Families.{Family}
 use Rattle.initializer_analysis.specs.declared.verdict.Verdict.{Verdict}
 use Rattle.object_graph.specs.Images.{ImageTables}
-use Rattle.explain.specs.Costs.{AreCosts}
+use Rattle.explain.specs.Costs.{AreCosts, AreDearestFirst}
 use Rattle.explain.specs.Texts.{AreEachBelow}
 use Rattle.explain.specs.declared.costs.Cost.{Cost}
 use Rattle.report_page.specs.Pictures.{bars_text, picture_text}
@@ -30,9 +28,9 @@ totals_text totals = codes "<dl>" ++ (total_text (codes "classes") totals.classe
     ++ (total_text (codes "bytes of regions") totals.bytes ++ codes "</dl>\n")))))))
 
 -- how many classes there are and how many are accepted; of sums nothing is said
-pub record AreTotals (verdicts : List Verdict) (costs : List (Option Cost)) (totals : Totals) : Type 0 where
+pub record AreTotals (verdicts : List Verdict) (dearest : List Cost) (totals : Totals) : Type 0 where
   pub classes : totals.classes ≡ length verdicts
-  pub built : totals.built ≡ length (flat_map option_to_list costs)
+  pub built : totals.built ≡ length dearest
 
 -- ---- sections
 
@@ -54,7 +52,8 @@ pictures_text family left built = codes "<section><h2>What depends on what, left
 -- ---- the page
 
 abbrev pub page_text : List ℕ → List ℕ → List ℕ → List ℕ → List ℕ → List ℕ
-page_text style numbers pictures rows script = codes "<!DOCTYPE html>\n<html lang=\"en\"><head><meta charset=\"utf-8\">\n"
+page_text style numbers pictures rows script =
+    codes "<!DOCTYPE html>\n<html lang=\"en\"><head><meta charset=\"utf-8\">\n"
     ++ (codes "<meta name=\"viewport\" content=\"width=device-width,initial-scale=1\">\n"
     ++ (codes "<title>Preinit: report</title>\n<style>\n"
     ++ (style
@@ -78,8 +77,10 @@ pub record IsPage (I : ImageTables) (verdicts : List Verdict) (at_run_time : Lis
     : Type 0 where
   pub costs : List (Option Cost)
   pub are : AreCosts I verdicts budget costs
+  pub dearest : List Cost
+  pub sorted : AreDearestFirst costs dearest
   pub totals : Totals
-  pub has_totals : AreTotals verdicts costs totals
+  pub has_totals : AreTotals verdicts dearest totals
   pub waves : Bars
   pub reasons : Bars
   pub left : Picture

@@ -48,9 +48,15 @@ impl Bars {
         }
     }
 
-    /// Adds a bar below the others.
-    pub(crate) fn add(&mut self, label: String, count: u64) -> Result<(), AllocError> {
+    /// Adds a bar below the others, as long as its count is beside the greatest one.
+    pub(crate) fn add(
+        &mut self,
+        label: String,
+        count: u64,
+        greatest: u64,
+    ) -> Result<(), AllocError> {
         let y = self.height;
+        let length = length_of(count, greatest);
         self.bars.push(Bar {
             label,
             count,
@@ -61,24 +67,6 @@ impl Bars {
         })?;
         self.height = y.saturating_add(STEP);
         Ok(())
-    }
-
-    /// The greatest count.
-    fn greatest(&self) -> u64 {
-        let mut greatest = 0;
-        for bar in self.bars.as_slice() {
-            greatest = bar.count.max(greatest);
-        }
-        greatest
-    }
-
-    /// Makes each bar as long as its count is, beside the greatest one.
-    pub(crate) fn fit(&mut self) {
-        let greatest = self.greatest();
-        for bar in self.bars.as_mut_slice() {
-            bar.length = length_of(bar.count, greatest);
-            bar.after = bar.length.saturating_add(136);
-        }
     }
 }
 

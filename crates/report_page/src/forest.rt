@@ -6,7 +6,7 @@ use initializer_analysis::verdict::{Reason, Verdict};
 use std::alloc::{AllocError, Global};
 
 /// How many classes a picture has, how many of those that depend on one, and how many levels of these.
-const MOST: usize = 40;
+const MOST: u32 = 40;
 
 const MOST_OF_ONE: u32 = 4;
 
@@ -36,7 +36,7 @@ fn depends_on(verdict: Verdict, class: u32) -> bool {
     }
 }
 
-/// Adds those that depend on a class, up to a few, in the order of their numbers from the last on.
+/// Adds those that depend on a class, up to a few.
 fn add_dependents(
     verdicts: &[Verdict],
     of: Waiting,
@@ -44,11 +44,14 @@ fn add_dependents(
     waiting: &mut Vec<Waiting>,
 ) -> Result<(), AllocError> {
     let mut few = 0;
-    for (class, verdict) in verdicts.iter().enumerate() {
+    for (number, verdict) in verdicts.iter().enumerate() {
+        let Ok(class) = u32::try_from(number) else {
+            return Ok(());
+        };
         if few < MOST_OF_ONE && depends_on(*verdict, of.class) {
             few += 1;
             waiting.push(Waiting {
-                class: class as u32,
+                class,
                 level: of.level.saturating_add(1),
                 others: None,
                 above: Some(at),
@@ -105,7 +108,7 @@ fn draw_all(
         let Some(next) = waiting.pop() else {
             return Ok(());
         };
-        draw(verdicts, next, row as u32, waiting, picture)?;
+        draw(verdicts, next, row, waiting, picture)?;
     }
     Ok(())
 }
@@ -119,8 +122,11 @@ pub(crate) fn forest(
     let mut picture = Picture::none(alloc);
     let mut waiting = Vec::new(alloc);
     for root in roots.iter().rev() {
+        let Ok(class) = u32::try_from(root.class) else {
+            return Ok(picture);
+        };
         waiting.push(Waiting {
-            class: root.class as u32,
+            class,
             level: 0,
             others: Some(u64::from(root.others)),
             above: None,

@@ -7,9 +7,9 @@ mod drawing;
 mod escaping;
 mod forest;
 mod look;
-mod page;
+mod pages;
 mod rows;
 mod totals;
 mod uses_picture;
 
-pub use page::page;
+pub use pages::page;

@@ -1,7 +1,6 @@
 //! Totals of a build: of all classes, by waves and by reasons.
 
 ghost use Rattle.std.specs.Prelude.{◌≡◌, IfOk, string_bytes};
-ghost use Rattle.explain.specs.Costs.{AreDearestFirst};
 ghost use Rattle.report_page.specs.Pages.{total_text, totals_text, AreTotals};
 
 use crate::bars::Bars;
@@ -99,20 +98,31 @@ fn wave_count(verdicts: &[Verdict], from: usize, to: usize) -> u64 {
     count
 }
 
+/// The greatest count of classes of one wave.
+fn greatest_wave(verdicts: &[Verdict]) -> u64 {
+    let mut greatest = wave_count(verdicts, WAVES, usize::MAX);
+    for wave in 0..WAVES {
+        greatest = greatest.max(wave_count(verdicts, wave, wave + 1));
+    }
+    greatest
+}
+
 /// A bar for each wave, and one for all that are above these.
 pub(crate) fn wave_bars(alloc: Global, verdicts: &[Verdict]) -> Result<Bars, AllocError> {
+    let greatest = greatest_wave(verdicts);
     let mut bars = Bars::none(alloc);
     for wave in 0..WAVES {
-        let count = wave_count(verdicts, wave, wave.saturating_add(1));
+        let count = wave_count(verdicts, wave, wave + 1);
         if count > 0 {
-            bars.add(format!(in alloc; "wave {wave}")?, count)?;
+            let label = format!(in alloc; "wave {wave}")?;
+            bars.add(label, count, greatest)?;
         }
     }
     let count = wave_count(verdicts, WAVES, usize::MAX);
     if count > 0 {
-        bars.add(format!(in alloc; "wave {WAVES} and above")?, count)?;
+        let label = String::from_str(alloc, "later waves")?;
+        bars.add(label, count, greatest)?;
     }
-    bars.fit();
     Ok(bars)
 }
 
@@ -129,16 +139,25 @@ fn reason_count(verdicts: &[Verdict], word: &str) -> u64 {
     count
 }
 
+/// The greatest count of classes of one reason.
+fn greatest_reason(verdicts: &[Verdict]) -> u64 {
+    let mut greatest = 0;
+    for reason in REASONS {
+        greatest = reason_count(verdicts, reason.word()).max(greatest);
+    }
+    greatest
+}
+
 /// A bar for each reason that a class stays at run time for.
 pub(crate) fn reason_bars(alloc: Global, verdicts: &[Verdict]) -> Result<Bars, AllocError> {
+    let greatest = greatest_reason(verdicts);
     let mut bars = Bars::none(alloc);
     for reason in REASONS {
-        let word = reason.word();
-        let count = reason_count(verdicts, word);
+        let count = reason_count(verdicts, reason.word());
         if count > 0 {
-            bars.add(String::from_str(alloc, word)?, count)?;
+            let label = String::from_str(alloc, reason.word())?;
+            bars.add(label, count, greatest)?;
         }
     }
-    bars.fit();
     Ok(bars)
 }

@@ -1,5 +1,8 @@
 //! A picture of the dearest accepted classes in the columns of their waves, with which of them use which.
 
+ghost use Rattle.std.specs.Prelude.{◌<◌};
+ghost use Rattle.use_graph.specs.steps.Bodies.{IsUseGraph};
+
 use crate::drawing::{HEIGHT, Link, Node, Picture, Point, WIDTH};
 use explain::{Cost, Overview};
 use initializer_analysis::verdict::Verdict;
@@ -24,32 +27,23 @@ fn wave_of(verdicts: &[Verdict], class: u32) -> usize {
     }
 }
 
-/// Adds a number to some in ascending order, once.
-fn add_wave(waves: &mut Vec<usize>, wave: usize) -> Result<(), AllocError> {
-    let mut place = 0;
-    for other in waves.as_slice() {
-        if *other == wave {
-            return Ok(());
-        }
-        if *other < wave {
-            place += 1;
-        }
-    }
-    waves.insert(place, wave)?;
-    Ok(())
-}
-
 /// The waves of some classes, each once, in ascending order.
 fn waves_of(alloc: Global, verdicts: &[Verdict], shown: &[Cost]) -> Result<Vec<usize>, AllocError> {
     let mut waves = Vec::new(alloc);
     for found in shown {
-        add_wave(&mut waves, wave_of(verdicts, found.class))?;
+        let wave = wave_of(verdicts, found.class);
+        if !waves.contains(&wave) {
+            waves.push(wave)?;
+        }
     }
+    waves.sort_unstable();
     Ok(waves)
 }
 
 /// The column of a wave: its place among these, or the last column.
-fn column_of(waves: &[usize], wave: usize) -> usize {
+fn column_of(waves: &[usize], wave: usize) -> usize
+    ensures { result < 6 }
+{
     for (column, other) in waves.iter().enumerate() {
         if *other == wave {
             return column.min(COLUMNS - 1);
@@ -112,7 +106,9 @@ fn add_links_of(
     user: Node,
     nodes: &[Node],
     links: &mut Vec<Link>,
-) -> Result<(), AllocError> {
+) -> Result<(), AllocError>
+    requires { IsUseGraph program.now overview.now.known.uses }
+{
     let uses = overview.uses(alloc, program, user.class)?;
     for used in nodes {
         if used.x < user.x && uses.classes.contains(&used.class) {
@@ -122,18 +118,29 @@ fn add_links_of(
     Ok(())
 }
 
-/// Adds all curves.
-fn add_links(
+/// The curves between the boxes of classes.
+fn links_between(
     alloc: Global,
     program: &Program,
     overview: &Overview,
-    picture: &mut Picture,
-) -> Result<(), AllocError> {
-    let nodes = picture.nodes.as_slice();
+    nodes: &[Node],
+) -> Result<Vec<Link>, AllocError>
+    requires { IsUseGraph program.now overview.now.known.uses }
+{
+    let mut links = Vec::new(alloc);
     for user in nodes {
-        add_links_of(alloc, program, overview, *user, nodes, &mut picture.links)?;
+        add_links_of(alloc, program, overview, *user, nodes, &mut links)?;
     }
-    Ok(())
+    Ok(links)
+}
+
+/// The first of some classes, as many as a picture has.
+fn first_of(costs: &[Cost]) -> &[Cost] {
+    if costs.len() <= MOST {
+        costs
+    } else {
+        &costs[..MOST]
+    }
 }
 
 /// The picture of the first of some accepted classes.
@@ -143,10 +150,11 @@ pub(crate) fn uses_picture(
     overview: &Overview,
     verdicts: &[Verdict],
     dearest: &[Cost],
-) -> Result<Picture, AllocError> {
-    let shown = &dearest[..dearest.len().min(MOST)];
+) -> Result<Picture, AllocError>
+    requires { IsUseGraph program.now overview.now.known.uses }
+{
     let mut picture = Picture::none(alloc);
-    add_nodes(alloc, verdicts, shown, &mut picture)?;
-    add_links(alloc, program, overview, &mut picture)?;
+    add_nodes(alloc, verdicts, first_of(dearest), &mut picture)?;
+    picture.links = links_between(alloc, program, overview, picture.nodes.as_slice())?;
     Ok(picture)
 }

@@ -1,12 +1,10 @@
 //! The page.
 
-ghost use Rattle.std.specs.Prelude.{◌≡◌, length, IfOk, List, Option, string_bytes};
-ghost use Rattle.explain.specs.Costs.{AreDearestFirst};
-ghost use Rattle.explain.specs.declared.costs.Cost.{Cost as Found};
-ghost use Rattle.report_page.specs.Pages.{numbers_text, page_text, pictures_text, AreTotals, IsPage};
+ghost use Rattle.std.specs.Prelude.{◌≡◌, length, IfOk, string_bytes};
+ghost use Rattle.explain.specs.steps.Known.{IsOverview};
+ghost use Rattle.report_page.specs.Pages.{numbers_text, page_text, pictures_text, IsPage};
 ghost use Rattle.report_page.specs.declared.bars.Bars.{Bars as Drawn};
 ghost use Rattle.report_page.specs.declared.drawing.Picture.{Picture as Shown};
-ghost use Rattle.report_page.specs.declared.totals.Totals.{Totals as Counted};
 
 use crate::bars::bars_text;
 use crate::drawing::picture_text;
@@ -45,6 +43,7 @@ fn pictures_text(
     dearest: &[Cost],
     overview: &Overview,
 ) -> Result<String, AllocError>
+    requires { IsOverview image.now.program verdicts.now overview.now }
     ensures { IfOk result (λ text. (left built : Shown)
         × (string_bytes text ≡ pictures_text image.now.program.family left built)) }
 {
@@ -111,7 +110,7 @@ pub fn page(
     let costs = costs_of(alloc, image, verdicts, budget)?;
     let dearest = dearest_first(alloc, costs.as_slice())?;
     let mut overview = Overview::of_program(alloc, program, verdicts)?;
-    let totals = totals_of(verdicts, costs.as_slice(), dearest.as_slice());
+    let totals = totals_of(verdicts, dearest.as_slice());
     let numbers = numbers_text(alloc, verdicts, totals)?;
     let pictures = pictures_text(alloc, image, verdicts, dearest.as_slice(), &overview)?;
     let count = program.given_count();
