@@ -20,6 +20,7 @@ IsReportApart words = IfSome words.report
 abbrev pub IsApart : Request → Type 0
 IsApart (requests.Build words) =
     IsNoneOf words.image.now (texts words.building.files.items) × IsReportApart words
+IsApart (requests.Report words) = IfSome words.page (λ name. IsNoneOf name.now (texts words.building.files.items))
 IsApart (requests.Renew words) = IsNoneOf words.new.now (words.image.now ∷ [])
 IsApart (requests.Run words) = IfSome words.journal (λ name. IsNoneOf name.now (words.image.now ∷ []))
 IsApart _ = ⊤

@@ -1,6 +1,6 @@
 //! The command `report`: a build in memory, and a line for each class.
 ghost use Rattle.std.specs.Prelude.{◌≡◌, IfOk};
-ghost use Rattle.cli.specs.Done.{IsReport};
+ghost use Rattle.cli.specs.Done.{HasPage, HasReport};
 ghost use Rattle.report.specs.Texts.{report_text};
 ghost use Rattle.report.specs.Waves.{GiveWaves};
 
@@ -25,7 +25,7 @@ pub(crate) fn run<R: Threads + Wait + Sync, F: Files, H: Watch + Sync>(
     files: &mut F,
     watch: &H,
 ) -> Result<Vec<u8>, CommandFault>
-    ensures { IfOk result (λ bytes. IsReport (F.holds files.old) (F.holds files.new) words.now bytes.items) }
+    ensures { IfOk result (λ bytes. HasReport (F.holds files.old) (F.holds files.new) words.now bytes.items) }
 {
     match asked_build(rt, alloc, &words.building, files, watch) {
         Ok(built) => told(alloc, &built, words, files),
