@@ -2,7 +2,7 @@
 ghost use Rattle.std.specs.Prelude.{◌≡◌, ◌≢◌, IfSome, None, Some, true};
 ghost use Rattle.command_line.specs.Requests.{texts};
 ghost use Rattle.cli.specs.Lists.{list_of};
-ghost use Rattle.cli.specs.Outputs.{AreListsApart, IsApart, IsNoListOf, IsNoneOf, IsReportApart};
+ghost use Rattle.cli.specs.Outputs.{AreListsApart, IsApart, IsNoListOf, IsNoneOf, IsPageApart, IsReportApart};
 
 use crate::lists::list_name;
 use crate::{Build, Files, Request};
@@ -39,6 +39,7 @@ pub(crate) fn overwritten<'a, F: Files>(request: &Request<'a>, files: &mut F) ->
 fn overwritten_by_build<'a, F: Files>(words: &Build<'a>, files: &mut F) -> Option<Clash<'a>>
     ensures image { result ≡ None → IsNoneOf words.now.image.now (texts words.now.building.files.items) }
     ensures report { result ≡ None → IsReportApart words.now }
+    ensures page { result ≡ None → IsPageApart words.now }
     ensures same { F.holds files.new ≡ F.holds files.old }
 {
     match among(words.image, words.building.files.as_slice(), files) {
@@ -113,6 +114,8 @@ pub(crate) fn overwritten_list<'a, F: Files>(
 fn list_overwritten_by_build<'a, F: Files>(words: &Build<'a>, files: &mut F) -> Option<Clash<'a>>
     ensures image { result ≡ None → IsNoListOf words.now.image.now (texts words.now.building.files.items) }
     ensures report { result ≡ None → IfSome words.now.report
+        (λ name. IsNoListOf name.now (texts words.now.building.files.items)) }
+    ensures page { result ≡ None → IfSome words.now.page
         (λ name. IsNoListOf name.now (texts words.now.building.files.items)) }
     ensures same { F.holds files.new ≡ F.holds files.old }
 {
