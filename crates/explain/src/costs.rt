@@ -1,9 +1,10 @@
 //! What the initializers of accepted classes cost and leave.
 
-ghost use Rattle.std.specs.Prelude.{◌≡◌, ◌++◌, length, nat_cmp, IfOk, OnOk};
+ghost use Rattle.std.specs.Prelude.{◌≡◌, ◌++◌, length, IfOk, OnOk};
 ghost use Rattle.std.specs.List.{flat_map};
 ghost use Rattle.std.specs.List.Sorted.{IsPermutation};
 ghost use Rattle.std.specs.Option.{option_to_list};
+ghost use Rattle.std.specs.Ordering.{nat_cmp};
 ghost use Rattle.machine.specs.Linked.{program_of};
 ghost use Rattle.region_shape.specs.Regions.{environment_of};
 ghost use Rattle.explain.specs.Costs.{AreCosts, AreDearestFirst, AreFalling, IsCost, IsCostOf};

@@ -1,7 +1,8 @@
 -- Text in HTML.
 use Rattle.std.specs.Prelude.{◌≢◌, ℕ, ◌==◌, List, if◌then◌else◌, codes}
 use Rattle.std.specs.List.{flat_map}
-use Rattle.std.specs.Str.{chars, encode_utf8}
+use Rattle.std.specs.Char.{encode_utf8}
+use Rattle.std.specs.Str.{chars}
 
 -- what stands for a character, in UTF-8: each that could begin or end markup or the value of an attribute is escaped
 abbrev pub escape : ℕ → List ℕ

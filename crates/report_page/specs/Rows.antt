@@ -33,7 +33,7 @@ cost_line family (Some found) = cost_text family found
 abbrev pub row_text : Family → ℕ → Verdict → Option Cost → List ℕ → List ℕ
 row_text family c verdict found reasons = codes "<tr><td><b>" ++ (name_text family c
     ++ (codes "</b><pre>" ++ (escaped (reasons ++ cost_line family found)
-    ++ (codes "</pre>" ++ (verdict_cells family verdict ++ (cost_cells found ++ codes "\n"))))))
+    ++ (codes "</pre>" ++ (verdict_cells family verdict ++ (cost_cells found ++ codes "</tr>\n"))))))
 
 -- the row of a class, by the last verdicts and by what the accepted classes cost
 pub record IsRow (I : ImageTables) (verdicts : List Verdict) (at_run_time : List Bool) (costs : List (Option Cost))

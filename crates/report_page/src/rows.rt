@@ -87,7 +87,7 @@ fn row(
     let verdict = verdict_cells(alloc, family, verdict)?;
     let cost = cost_cells(alloc, found)?;
     let told = explained(alloc, family, reasons, found)?;
-    format!(in alloc; "<tr><td><b>{name}</b><pre>{told}</pre>{verdict}{cost}\n")
+    format!(in alloc; "<tr><td><b>{name}</b><pre>{told}</pre>{verdict}{cost}</tr>\n")
 }
 
 /// The cost at the number of a class.

@@ -42,9 +42,8 @@ const REASONS: [Reason; 14] = [
 ];
 
 /// What is counted of all classes, by what the accepted ones cost.
-pub(crate) fn totals_of(verdicts: &[Verdict], costs: &[Option<Cost>], dearest: &[Cost]) -> Totals
-    requires { AreDearestFirst costs.now dearest.now }
-    ensures { AreTotals verdicts.now costs.now result }
+pub(crate) fn totals_of(verdicts: &[Verdict], dearest: &[Cost]) -> Totals
+    ensures { AreTotals verdicts.now dearest.now result }
 {
     let mut totals = Totals {
         classes: verdicts.len() as u64,
@@ -142,7 +141,7 @@ fn reason_count(verdicts: &[Verdict], word: &str) -> u64 {
 /// The greatest count of classes of one reason.
 fn greatest_reason(verdicts: &[Verdict]) -> u64 {
     let mut greatest = 0;
-    for reason in REASONS {
+    for reason in REASONS.iter() {
         greatest = reason_count(verdicts, reason.word()).max(greatest);
     }
     greatest
@@ -152,7 +151,7 @@ fn greatest_reason(verdicts: &[Verdict]) -> u64 {
 pub(crate) fn reason_bars(alloc: Global, verdicts: &[Verdict]) -> Result<Bars, AllocError> {
     let greatest = greatest_reason(verdicts);
     let mut bars = Bars::none(alloc);
-    for reason in REASONS {
+    for reason in REASONS.iter() {
         let count = reason_count(verdicts, reason.word());
         if count > 0 {
             let label = String::from_str(alloc, reason.word())?;
