@@ -16,6 +16,7 @@ ghost use Rattle.hierarchy.specs.steps.MemberKeys.{IsLookup, AreNumbers};
 ghost use Rattle.hierarchy.specs.MemberLookup.{flags_in, is_inherited, key_in, member_flags};
 ghost use Rattle.hierarchy.specs.MemberNames.{text_in, named_in};
 
+use crate::beyond::Beyond;
 use crate::member::DeclaredMember;
 use crate::member_key::MemberKey;
 use crate::member_name::MemberName;
@@ -39,6 +40,7 @@ pub struct Hierarchy {
     family: Family,
     table: MemberTable,
     nearest: NearestMembers,
+    beyond: Beyond,
 }
 
 // By hand, since a derived one is proved anew wherever one is let go.
@@ -48,6 +50,7 @@ impl Drop for Hierarchy {
             family: _,
             table: _,
             nearest: _,
+            beyond: _,
         } = self;
     }
 }
@@ -72,11 +75,15 @@ impl Hierarchy {
         ensures { IfOk result (λ h. h.family ≡ family) }
     {
         match tables_of(alloc, &family) {
-            Ok((table, nearest)) => Ok(Hierarchy {
-                family,
-                table,
-                nearest,
-            }),
+            Ok((table, nearest)) => match Beyond::of_family(alloc, &family) {
+                Ok(beyond) => Ok(Hierarchy {
+                    family,
+                    table,
+                    nearest,
+                    beyond,
+                }),
+                Err(error) => Err(error),
+            },
             Err(error) => Err(error),
         }
     }
@@ -93,6 +100,12 @@ impl Hierarchy {
         ensures { result ≡ substitute_in self.now.family class }
     {
         self.family.substitute(class)
+    }
+
+    /// Whether a built-in class has a substitute that is a given class or below it.
+    pub(crate) fn is_substitute_below(&self, class: BuiltIn, other: u32) -> bool {
+        let beyond = &self.beyond;
+        beyond.is_below(class, other)
     }
 
     /// The text of a number, or no bytes.
