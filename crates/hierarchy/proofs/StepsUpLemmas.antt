@@ -109,25 +109,24 @@ module _ (edges : ℕ → List ℕ) where
       )
   rest_of x (more edge way) once (suc k, small, at) = rest_of x way once.1 (k, omega arith, at)
 
+  -- one vertex more in front: where it stands on the way, the way goes on from there
+  longer : {c e : ℕ} (d : ℕ) → Contains (edges c) d → (es : List ℕ) → Way edges d es e → AreOnce es
+      → (fs : List ℕ) × Way edges c fs e × AreOnce fs
+  longer {c} {e} d edge es way once = by_place (list_any (λ x. eqb x d) es) refl
+    where
+      by_place : (b : Bool) → list_any (λ x. eqb x d) es ≡ b → (fs : List ℕ) × Way edges c fs e × AreOnce fs
+      by_place false is =
+          (let out : Contains es d → ⊥ = λ has. (let yes = (has_tells d es).1 has in cc) in
+          (d ∷ es, more edge way, (out, once)))
+      by_place true is = elim (rest_of d way once ((has_tells d es).0 is)) [
+        | inl same ↦ (d ∷ [], subst (λ (z : ℕ). Way edges c (d ∷ []) z) same (one edge), (none_in, tt))
+        | inr (rest, onward, out, apart) ↦ (d ∷ rest, more edge onward, (out, apart))
+      ]
+
   -- a way without circles
   short_way : {c e : ℕ} {ds : List ℕ} → Way edges c ds e → (es : List ℕ) × Way edges c es e × AreOnce es
   short_way (one {d = d} edge) = (d ∷ [], one edge, (none_in, tt))
-  short_way {c} {e} (more {d = d} edge way) =
-      let r = short_way way in
-      by_case (list_any (λ x. eqb x d) r.0) refl r.0 r.1 r.2
-    where
-      by_case : (b : Bool) → list_any (λ x. eqb x d) (short_way way).0 ≡ b → (es : List ℕ) → Way edges d es e
-          → AreOnce es → (es : List ℕ) × Way edges c es e × AreOnce es
-      by_case b is es back once = by_place (list_any (λ x. eqb x d) es) refl
-        where
-          by_place : (b : Bool) → list_any (λ x. eqb x d) es ≡ b → (es : List ℕ) × Way edges c es e × AreOnce es
-          by_place false is =
-              (let out : Contains es d → ⊥ = λ has. (let yes = (has_tells d es).1 has in cc) in
-              (d ∷ es, more edge back, (out, once)))
-          by_place true is = elim (rest_of d back once ((has_tells d es).0 is)) [
-            | inl same ↦ (d ∷ [], subst (λ (z : ℕ). Way edges c (d ∷ []) z) same (one edge), (none_in, tt))
-            | inr (rest, further, out, apart) ↦ (d ∷ rest, more edge further, (out, apart))
-          ]
+  short_way (more {d = d} edge way) = let r = short_way way in longer d edge r.0 r.1 r.2
 
   way_within : (n : ℕ) → ((c d : ℕ) → Contains (edges c) d → d < n) → {c e : ℕ} {ds : List ℕ} (x : ℕ)
       → Way edges c ds e → Contains ds x → x < n
