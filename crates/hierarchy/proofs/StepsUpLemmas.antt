@@ -23,7 +23,7 @@ none_in (k, small, e) = omega arith
 
 -- ---- lists put together
 
-in_flat_map : {A B : Type 0} (f : A → List B) (xs : List A) (d : A) (y : B) → Contains xs d → Contains (f d) y
+pub in_flat_map : {A B : Type 0} (f : A → List B) (xs : List A) (d : A) (y : B) → Contains xs d → Contains (f d) y
     → Contains (flat_map f xs) y
 in_flat_map f [] d y among has = absurd (none_in among)
 in_flat_map {A} {B} f (x ∷ xs) d y (zero, small, e) has =
@@ -40,7 +40,7 @@ from_flat_map f (x ∷ xs) y has = elim (Contains-append_cases (f x) (flat_map f
 ]
 
 -- the only one of an option
-only_one : (o : Option ℕ) (d : ℕ) → Contains (option_to_list o) d → o ≡ Some d
+pub only_one : (o : Option ℕ) (d : ℕ) → Contains (option_to_list o) d → o ≡ Some d
 only_one None d has = absurd (none_in has)
 only_one (Some x) d (zero, small, e) = ap Some e
 only_one (Some x) d (suc k, small, e) = absurd (omega arith)
