@@ -23,6 +23,8 @@ use Rattle.hierarchy.specs.Initialization.{AreSuperclasses, none, next}
 use Rattle.hierarchy.proofs.FirstsLemmas.{has_tells}
 use Rattle.hierarchy.proofs.InitializationLemmas.{superclasses_of}
 use Rattle.hierarchy.proofs.StepsUpLemmas.{substitute_of_one, one_of_substitutes, only_one, in_flat_map}
+use Rattle.hierarchy.proofs.StepsUpLemmas.{from_flat_map}
+use Rattle.loading.proofs.SubstitutesLemmas.{all_substitutes}
 use Rattle.hierarchy.proofs.SubtypesLemmas.{along_superclasses}
 use Rattle.loading.proofs.LibraryLemmas.{small, stands_at}
 use Rattle.built_in.specs.Subclasses.{number_of_built_in}
@@ -169,3 +171,62 @@ module _ (family : Family) (fits : IsFamily family) (within : AreParentsWithin f
       | inr above ↦ along itself
           (subst (λ (ds : List ℕ). Contains ds d) (sym (up.rows s)) (substitute_step b builtins.Object s d is above to))
     ]
+
+    built_in_is : (s : Option Superclass) (e : BuiltIn) → Contains (built_in_of s) e → s ≡ Some (super.BuiltIn e)
+    built_in_is None e (k, small, same) = absurd (omega arith)
+    built_in_is (Some (super.Given d)) e (k, small, same) = absurd (omega arith)
+    built_in_is (Some (super.BuiltIn b)) e (zero, small, same) = ap (λ (z : BuiltIn). Some (super.BuiltIn z)) same
+    built_in_is (Some (super.BuiltIn b)) e (suc k, small, same) = absurd (omega arith)
+
+    edge_up : (m d : ℕ) → Contains (up_in family m) d → Contains (successors_of graph m) d
+    edge_up m d = subst (λ (ds : List ℕ). Contains ds d) (sym (up.rows m))
+
+    module _ (c : ℕ) (t : BuiltIn) (top : IsTop family c t) where
+      by_parent : (m d : ℕ) → IsUnder family graph c m → Contains (parents_in family m) d → Contains (up_in family m) d
+          → IsUnder family graph c d
+      by_parent m d (IsUnder.alone (inl same)) edge whole =
+          IsUnder.alone (inr (parent (subst (λ (z : ℕ). Contains (parents_in family z) d) (sym same) edge)))
+      by_parent m d (IsUnder.alone (inr above)) edge whole = IsUnder.alone (inr (further above edge))
+      by_parent m d (IsUnder.beyond directly is path) edge whole =
+          IsUnder.beyond directly is (along path (edge_up m d whole))
+
+      by_superclass : (m d : ℕ) (e : BuiltIn) → IsAtOrAbove family c m
+          → superclass_in family m ≡ Some (super.BuiltIn e) → substitute_in family e ≡ Some d
+          → IsUnder family graph c d
+      by_superclass m d e (inl same) is to =
+          IsUnder.beyond (IsDirectly.end (direct (ap (superclass_in family) same ∙ is))) to itself
+      by_superclass m d e (inr above) is to = elim (end_above c m e above is) [
+        | inl ends ↦ IsUnder.beyond (IsDirectly.end ends) to itself
+        | inr object ↦ (let s = all_substitutes family e d to t in
+            IsUnder.beyond (IsDirectly.end top) s.1
+            (to_object t s.0 d s.1 (ap (substitute_in family) (sym object) ∙ to)))
+      ]
+
+      by_substitute : (m d : ℕ) → IsUnder family graph c m → (e : BuiltIn) → Contains (built_in_above family m) e
+          → substitute_in family e ≡ Some d → Contains (up_in family m) d → IsUnder family graph c d
+      by_substitute m d (IsUnder.beyond directly is path) e has to whole =
+          IsUnder.beyond directly is (along path (edge_up m d whole))
+      by_substitute m d (IsUnder.alone at) e has to whole =
+          elim (Contains-append_cases (built_in_of (superclass_in family m))
+          (flat_map superclasses_of_built_in (filter (is_substitute_in family m) all_built_in)) e has) [
+            | inl first ↦ by_superclass m d e at (built_in_is (superclass_in family m) e first) to
+            | inr above ↦
+                let from =
+                from_flat_map superclasses_of_built_in (filter (is_substitute_in family m) all_built_in) e above in
+                let that = is_that m from.0 (passed (is_substitute_in family m) all_built_in from.0 from.1) in
+                IsUnder.beyond (IsDirectly.at that at) that (along itself (edge_up m d whole))
+          ]
+
+      pub under_step : (m d : ℕ) → IsUnder family graph c m → Contains (up_in family m) d → IsUnder family graph c d
+      under_step m d under edge =
+          elim (Contains-append_cases (parents_in family m) (substitutes_in family (built_in_above family m)) d edge) [
+            | inl above ↦ by_parent m d under above edge
+            | inr beyond ↦ (let s = substitute_of_one family (built_in_above family m) d beyond in
+                by_substitute m d under s.0 s.1 s.2 edge)
+          ]
+
+      -- what is reached is below so
+      pub reached_under : {d : ℕ} → Reaches graph c d → IsUnder family graph c d
+      reached_under itself = IsUnder.alone (inl refl)
+      reached_under {d} (along {a = m} path edge) =
+          under_step m d (reached_under path) (subst (λ (ds : List ℕ). Contains ds d) (up.rows m) edge)

@@ -31,7 +31,7 @@ in_flat_map {A} {B} f (x ∷ xs) d y (zero, small, e) has =
 in_flat_map f (x ∷ xs) d y (suc k, small, e) has =
     Contains-append_right (f x) (flat_map f xs) y (in_flat_map f xs d y (k, omega arith, e) has)
 
-from_flat_map : {A B : Type 0} (f : A → List B) (xs : List A) (y : B) → Contains (flat_map f xs) y
+pub from_flat_map : {A B : Type 0} (f : A → List B) (xs : List A) (y : B) → Contains (flat_map f xs) y
     → (d : A) × Contains xs d × Contains (f d) y
 from_flat_map f [] y has = absurd (none_in has)
 from_flat_map f (x ∷ xs) y has = elim (Contains-append_cases (f x) (flat_map f xs) y has) [
