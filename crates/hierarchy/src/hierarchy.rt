@@ -7,7 +7,7 @@ ghost use Rattle.hierarchy.specs.steps.NearestMembers.{AreNearest};
 ghost use Rattle.std.specs.List.{Contains};
 ghost use Rattle.hierarchy.specs.steps.Reaches.{Nearest, classes_noted};
 ghost use Rattle.hierarchy.specs.steps.Tops.{IsTop};
-ghost use Rattle.loading.specs.Families.{IsFamily, superclass_in, superclasses_in};
+ghost use Rattle.loading.specs.Families.{IsFamily, substitute_in, superclass_in, superclasses_in};
 ghost use Rattle.hierarchy.specs.steps.HierarchyTables.{wanted_in};
 ghost use Rattle.hierarchy.specs.steps.MemberTables.{IsTableOf};
 ghost use Rattle.built_in.specs.Keys.{NameAndType};
@@ -86,6 +86,13 @@ impl Hierarchy {
         ensures { result.now ≡ self.now.family }
     {
         &self.family
+    }
+
+    /// The number of a built-in class's substitute.
+    pub(crate) fn substitute(&self, class: BuiltIn) -> Option<u32>
+        ensures { result ≡ substitute_in self.now.family class }
+    {
+        self.family.substitute(class)
     }
 
     /// The text of a number, or no bytes.
