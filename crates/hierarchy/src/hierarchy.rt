@@ -102,12 +102,6 @@ impl Hierarchy {
         self.family.substitute(class)
     }
 
-    /// Whether a built-in class has a substitute that is a given class or below it.
-    pub(crate) fn is_substitute_below(&self, class: BuiltIn, other: u32) -> bool {
-        let beyond = &self.beyond;
-        beyond.is_below(class, other)
-    }
-
     /// The text of a number, or no bytes.
     pub(crate) fn text_of(&self, number: usize) -> &[u8]
         ensures { result.now ≡ slice_index_or self.now.texts number [] }

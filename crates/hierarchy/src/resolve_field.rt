@@ -54,7 +54,7 @@ impl Hierarchy {
         requires known { AreOf self.now.family ancestors.old }
         requires lookup { IsLookup self.now.texts (sought_name sought) sought.key }
         ensures known { AreOf self.now.family ancestors.new }
-        ensures field { IfOk result (ResolvesField self.now.family (sought_name sought) (class_ids.Given class)) }
+        ensures field { IfOk result (ResolvesField self.now.family (sought_name sought.entry) (class_ids.Given class)) }
     {
         let first = self.first_field(ancestors, class, sought.key)?;
         Ok(self.found_field(class, first, sought))
@@ -67,14 +67,14 @@ impl Hierarchy {
         found: Option<DeclaredMember>,
         sought: Sought<'_>,
     ) -> Option<Field>
-        ensures { Search self.now.family (field_in self.now.family (sought_name sought)) (class ∷ []) found
-            → ResolvesField self.now.family (sought_name sought) (class_ids.Given class) result }
+        ensures { Search self.now.family (field_in self.now.family (sought_name sought.entry)) (class ∷ []) found
+            → ResolvesField self.now.family (sought_name sought.entry) (class_ids.Given class) result }
     {
         if let Some(DeclaredMember { class, index }) = found {
             return Some(Field::Given { class, index });
         }
-        let is_out = self.is_system(class) && is_out(sought);
-        is_out.then_some(Field::Out)
+        let of_system = self.is_system(class) && is_out(sought);
+        of_system.then_some(Field::Out)
     }
 
     /// Whether a given class is the substitute of System.
