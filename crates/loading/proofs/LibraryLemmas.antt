@@ -1,10 +1,11 @@
 -- The library: which names have files, and which class the name of a superclass is.
-use Rattle.std.proofs.Common.{◌≡◌, ℕ, zero, suc, ◌+◌, ◌<◌, Bool, true, false, not, ◌&&◌, ◌||◌, cond, List, [], ◌∷◌, length}
+use Rattle.std.proofs.Common.{◌≡◌, ℕ, zero, suc, ◌+◌, ◌<◌, ◌≤◌, ◌++◌, Bool, true, false, not, ◌&&◌, ◌||◌, cond, List, [], ◌∷◌, length}
 use Rattle.std.proofs.Common.{Option, Some, None, map, get_or, take, refl, sym, ap, subst, ◌∙◌, arith}
 use Rattle.std.specs.List.{list_all, list_any, position_from, slice_get}
 use Rattle.std.specs.Option.{MatchOption, option_map, is_some}
 use Rattle.std.specs.Str.{bytes_eq}
 use Rattle.std.proofs.lemmas.Option.{same_Some, slice_get-map}
+use Rattle.std.proofs.lemmas.List.{length-map, map-append, take_all, take_more}
 use Rattle.std.proofs.lemmas.List.Folds.{list_all_at}
 use Rattle.std.proofs.lemmas.Slice.Eq.{bytes_eq-Decides}
 use Rattle.classfile.specs.ClassFile.{ClassFile}
@@ -202,6 +203,18 @@ abbrev pub AreNumbersSoFar : List ClassFile → ℕ → List ℕ → Type 0
 AreNumbersSoFar files n numbers =
     map Some numbers ≡ map (λ (b : BuiltIn). number_among files (substitute_name b)) (take n all_built_in)
 
+-- one number more
+pub numbers_more : (files : List ClassFile) (n : ℕ) (b : BuiltIn) (d : ℕ) (old new : List ℕ)
+    → n < length all_built_in → b ≡ get_or all_built_in n b → number_among files (substitute_name b) ≡ Some d
+    → new ≡ old ++ d ∷ [] → AreNumbersSoFar files n old → AreNumbersSoFar files (n + 1) new
+numbers_more files n b d old new within read found pushed so_far =
+    rw (pushed, take_more all_built_in n b within) (simp (map-append) joined)
+  where
+    joined : map Some old ++ Some d ∷ [] ≡ map (λ (b : BuiltIn). number_among files (substitute_name b))
+        (take n all_built_in)
+        ++ number_among files (substitute_name (get_or all_built_in n b)) ∷ []
+    joined = rw (so_far, ← read, found) refl
+
 option_read : (o p : Option ℕ) → option_map Some o ≡ Some p → o ≡ p
 option_read None p e = absurd cc
 option_read (Some x) p e = same_Some (Some x) p e
@@ -242,6 +255,17 @@ all_numbers files numbers all count b =
 
     there : has_library files ≡ true
     there = library_of files each
+
+-- and all of them
+pub numbers_whole : (files : List ClassFile) (n : ℕ) (numbers : List ℕ) → length all_built_in ≤ n
+    → AreNumbersSoFar files n numbers → AreSubstitutes files numbers
+numbers_whole files n numbers all so_far =
+    let g : BuiltIn → Option ℕ = λ b. number_among files (substitute_name b) in
+    let wrap : ℕ → Option ℕ = λ z. Some z in
+    let whole : map Some numbers ≡ map (λ (b : BuiltIn). number_among files (substitute_name b)) all_built_in =
+    so_far ∙ ap (map g) (take_all n all_built_in all) in
+    all_numbers files numbers whole
+    (sym (length-map numbers wrap) ∙ ap length whole ∙ length-map all_built_in g)
 
 pub no_numbers : (files : List ClassFile) (n : ℕ) (b : BuiltIn) → n < length all_built_in
     → b ≡ get_or all_built_in n b → number_among files (substitute_name b) ≡ None → AreSubstitutes files []
