@@ -98,7 +98,7 @@ pub(crate) fn call_site(
             first_call(program, caller, code.body.instructions(), callee)
         }
         Some(Implementation::Abstract) => None,
-        Some(Implementation::Unsupported) => None,
+        Some(Implementation::Unsupported | Implementation::Native(_)) => None,
         None => None,
     }
 }

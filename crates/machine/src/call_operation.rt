@@ -191,18 +191,27 @@ fn is_static_target(program: &Program, method: Method) -> bool
     }
 }
 
-fn names_stream(class: Option<ClassId>) -> bool
+fn names_stream(program: &Program, class: Option<ClassId>) -> bool
     ensures { result ≡ names_stream class }
 {
-    matches!(class, Some(ClassId::BuiltIn(BuiltIn::PrintStream)))
+    match class {
+        Some(ClassId::BuiltIn(BuiltIn::PrintStream)) => true,
+        Some(ClassId::Given(class)) => program.substitute(BuiltIn::PrintStream) == Some(class),
+        _ => false,
+    }
 }
 
-fn instance_call(caller: u32, reference: MethodReference, choice: Choice) -> InstanceCall
+fn instance_call(
+    program: &Program,
+    caller: u32,
+    reference: MethodReference,
+    choice: Choice,
+) -> InstanceCall
     ensures { result ≡ instance_call caller reference choice }
 {
     InstanceCall {
         choice,
-        names_stream: names_stream(reference.class),
+        names_stream: names_stream(program, reference.class),
         caller,
         descriptor: reference.descriptor,
     }
@@ -236,7 +245,7 @@ fn virtual_callee(
             if is_static_target(program, method) {
                 return Err(FaultKind::Fault);
             }
-            let call = instance_call(caller, reference, Choice::Selected(method));
+            let call = instance_call(program, caller, reference, Choice::Selected(method));
             Ok(instance_operation(Some(method), call))
         }
         Err(Unresolved::Missing) => Err(FaultKind::Missing),
@@ -316,7 +325,7 @@ fn special_callee(
             let found = found_special(program, caller, method, reference.class);
             Ok(instance_operation(
                 found,
-                instance_call(caller, reference, Choice::Found(found)),
+                instance_call(program, caller, reference, Choice::Found(found)),
             ))
         }
         Err(Unresolved::Missing) => Err(FaultKind::Missing),

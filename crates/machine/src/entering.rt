@@ -35,7 +35,7 @@ pub fn initializer_frame(
             cells: Cells::new(alloc, code.max_locals, code.max_stack)?,
         })),
         Some(Implementation::Abstract) => Ok(None),
-        Some(Implementation::Unsupported) => Ok(None),
+        Some(Implementation::Unsupported | Implementation::Native(_)) => Ok(None),
         None => Ok(None),
     }
 }

@@ -13,10 +13,13 @@ use crate::store::Store;
 use crate::stored_kind::{extra_places, top_stored};
 use frame_instructions::numeric::advance;
 use frame_instructions::operand_kind::{OperandKind, top_as};
+use built_in::class_id::{BuiltIn, ClassId};
 use program::Program;
+use program::runtime_constant::FieldKind;
 use std::alloc::Global;
 use vm_state::ends::FaultKind;
 use vm_state::frame::Frame;
+use vm_state::value::Value;
 
 const FAULT: Result<Conclusion, Stop> = Ok(Conclusion::Halts(FaultKind::Fault));
 
@@ -45,15 +48,47 @@ pub fn get_field<S: Store>(
         return FAULT;
     }
     let Some(object) = name_of(holder) else {
+        if let Value::Text(_) = holder {
+            return zero_of_nothing(program, frame, ClassId::BuiltIn(BuiltIn::String), field);
+        }
         return without_object(alloc, by, store, holder);
     };
-    if !is_holder(program, field.class, store.class_of(by, object)?) {
+    let class = store.class_of(by, object)?;
+    if let Some(ClassId::BuiltIn(_)) = class {
+        return match class {
+            Some(class) => zero_of_nothing(program, frame, class, field),
+            None => FAULT,
+        };
+    }
+    if !is_holder(program, field.class, class) {
         return FAULT;
     }
     let Some(value) = store.slot(by, object, field.slot as usize)? else {
         return FAULT;
     };
     if frame.cells.replace_one(value).is_err() {
+        return FAULT;
+    }
+    advance(frame);
+    Ok(Conclusion::Stays)
+}
+
+/// A field of a class that stands for a built-in one, of what is of that and has no fields: zero or null.
+fn zero_of_nothing(
+    program: &Program,
+    frame: &mut Frame,
+    class: ClassId,
+    field: InstanceField,
+) -> Result<Conclusion, Stop> {
+    if !program.is_below(class, ClassId::Given(field.class)) {
+        return FAULT;
+    }
+    let zero = match field.kind {
+        FieldKind::Reference => Value::Null,
+        FieldKind::Long => Value::Long(0),
+        _ => Value::Int(0),
+    };
+    if frame.cells.replace_one(zero).is_err() {
         return FAULT;
     }
     advance(frame);

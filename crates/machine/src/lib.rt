@@ -22,6 +22,7 @@ pub mod laws;
 mod members;
 pub mod monitors;
 pub mod moving;
+mod natives;
 mod object_execution;
 pub mod object_operation;
 pub mod objects;

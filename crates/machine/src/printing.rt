@@ -10,9 +10,10 @@ ghost use Rattle.machine.specs.Accesses.{Gives, Keeps};
 use crate::call_operation::InstanceCall;
 use crate::instance_calls::{call_on, is_out};
 use crate::kinds::{Conclusion, Execution, Receiver, Stop};
+use crate::natives::text_of_object;
 use crate::references::second_reference;
 use crate::store::Store;
-use classfile::{printed, printed_unit};
+use classfile::{ModifiedUtf8, printed, printed_unit};
 use frame_instructions::operand_kind::{OperandKind, top_as};
 use program::{Printed, Program};
 use std::alloc::{AllocError, Global};
@@ -145,6 +146,21 @@ pub fn print_value<S: Store>(
     let Ok(receiver) = second_reference(&frame.cells) else {
         return FAULT;
     };
+    if let Printed::String = what {
+        if let Some(units) = text_of_object(given.alloc, given.program, given.by, store, value)? {
+            let receiver = Receiver {
+                value: receiver,
+                count: 2,
+            };
+            if !is_out(receiver.value) {
+                return call_on(given, spares, frame, store, call, receiver);
+            }
+            let bytes = ModifiedUtf8::from_units(given.alloc, units.as_slice())?;
+            let text = Text::of_string(printed(given.alloc, bytes.bytes())?);
+            let text = ended(line, text)?;
+            return print_on(given, spares, frame, store, call, receiver, text);
+        }
+    }
     let receiver = Receiver {
         value: receiver,
         count: 2,

@@ -68,7 +68,7 @@ fn call_main(
     match program.implementation(class, method) {
         None => Ok(Conclusion::Halts(FaultKind::Missing)),
         Some(Implementation::Abstract) => Ok(Conclusion::Halts(FaultKind::Missing)),
-        Some(Implementation::Unsupported) => Ok(Conclusion::Halts(FaultKind::Unsupported)),
+        Some(Implementation::Unsupported | Implementation::Native(_)) => Ok(Conclusion::Halts(FaultKind::Unsupported)),
         Some(Implementation::Code(code)) => {
             let Ok(argument) = frame.cells.top() else {
                 return Ok(Conclusion::Halts(FaultKind::Fault));

@@ -53,7 +53,7 @@ fn add_implementation(
     match implementation {
         Implementation::Code(code) => add_code(answer, program, class, code),
         Implementation::Abstract => answer.word("abstract"),
-        Implementation::Unsupported => answer.word("left out"),
+        Implementation::Unsupported | Implementation::Native(_) => answer.word("left out"),
     }
 }
 

@@ -37,6 +37,8 @@ impl Program {
         ensures err { OnErr result (self.new ≡ self.old) }
     {
         let text = ModifiedUtf8::from_units(alloc, units)?;
-        self.strings.add(alloc, text.bytes())
+        let number = self.strings.add(alloc, text.bytes())?;
+        self.find_units(alloc)?;
+        Ok(number)
     }
 }

@@ -249,7 +249,7 @@ fn class_tables(
 
 /// A program of its parts.
 #[tactic(auto, using(crate::proofs::AddedStringsLemmas::own_alone))]
-fn joined(hierarchy: Hierarchy, slots: SlotTable, tables: Tables) -> Program
+fn joined(alloc: Global, hierarchy: Hierarchy, slots: SlotTable, tables: Tables) -> Program
     requires links { Links (files_of hierarchy.family) }
     requires slots { AreSlots hierarchy.family slots }
     requires order_count { length tables.orders ≡ length hierarchy.family }
@@ -268,6 +268,16 @@ fn joined(hierarchy: Hierarchy, slots: SlotTable, tables: Tables) -> Program
         classes: tables.classes,
         strings: tables.strings,
         slots,
+        units: Vec::new(alloc),
+    }
+}
+
+/// With the units of its strings.
+fn with_units(alloc: Global, program: Program) -> Result<Program, LinkFault> {
+    let mut program = program;
+    match program.find_units(alloc) {
+        Ok(()) => Ok(program),
+        Err(AllocError) => Err(LinkFault::Memory),
     }
 }
 
@@ -287,7 +297,7 @@ fn implemented(alloc: Global, frame: Frame) -> Result<Program, LinkFault>
     } = frame;
     let mut tables = tables;
     if implement(alloc, hierarchy.family(), &mut tables.classes) {
-        Ok(joined(hierarchy, slots, tables))
+        with_units(alloc, joined(alloc, hierarchy, slots, tables))
     } else {
         Err(LinkFault::Memory)
     }
@@ -315,7 +325,7 @@ fn implemented_by<R: Threads + Sync>(
     } = frame;
     let mut tables = tables;
     if implement_by(rt, alloc, threads, hierarchy.family(), &mut tables.classes) {
-        Ok(joined(hierarchy, slots, tables))
+        with_units(alloc, joined(alloc, hierarchy, slots, tables))
     } else {
         Err(LinkFault::Memory)
     }

@@ -45,6 +45,23 @@ pub enum Implementation {
     Abstract,
     /// Native or synchronized, which the machine leaves out.
     Unsupported,
+    /// One of those that the machine has.
+    Native(Native),
+}
+
+/// The native methods that the machine has, of classes that stand for built-in ones.
+#[derive(Clone, Copy)]
+pub enum Native {
+    /// `static native int constantLength(Object)` of String.
+    ConstantLength,
+    /// `static native char constantAt(Object, int)` of String.
+    ConstantAt,
+    /// `static native char[] className(Object)` of Object.
+    ClassName,
+    /// `static native int classNumber(Object)` of Object.
+    ClassNumber,
+    /// `static native void raise(Throwable)` of Throwable.
+    Raise,
 }
 
 /// The methods of a class, in the order of its file.

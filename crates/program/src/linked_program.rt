@@ -37,6 +37,8 @@ pub struct Program {
     pub(crate) strings: Texts,
     /// What objects hold.
     pub(crate) slots: SlotTable,
+    /// By number of a string: its units.
+    pub(crate) units: Vec<ClassName>,
 }
 
 impl Model for Program {
@@ -69,6 +71,7 @@ impl Drop for Program {
             classes: _,
             strings: _,
             slots: _,
+            units: _,
         } = self;
     }
 }
@@ -170,6 +173,25 @@ impl Program {
         ensures { option_map (λ text. text.now) result ≡ slice_get self.now.strings number }
     {
         self.strings.text(number)
+    }
+
+    /// The units of a string, by its number among the strings of the program.
+    pub fn units(&self, number: usize) -> Option<&[u16]> {
+        match self.units.get(number) {
+            Some(name) => Some(name.units()),
+            None => None,
+        }
+    }
+
+    /// Finds the units of the strings that came since.
+    pub(crate) fn find_units(&mut self, alloc: Global) -> Result<(), AllocError> {
+        let mut number = self.units.len();
+        while let Some(text) = self.strings.text(number) {
+            let name = ClassName::from_modified_utf8(alloc, text)?;
+            self.units.push(name)?;
+            number += 1;
+        }
+        Ok(())
     }
 
     /// The static fields of a class that have values, in order; none of a class that is not there.

@@ -4,6 +4,7 @@ ghost use Rattle.std.specs.Prelude.{◌≡◌};
 ghost use Rattle.program.specs.MemberFlags.{is_static_method, is_final_field};
 
 use crate::linked_program::Program;
+use built_in::class_id::BuiltIn;
 use classfile::flags::{FINAL, STATIC, has_flag};
 
 impl Program {
@@ -12,6 +13,11 @@ impl Program {
         ensures { result ≡ is_static_method self.now.family class index }
     {
         has_flag(self.hierarchy.flags(class, index), STATIC)
+    }
+
+    /// The given class that stands for a built-in class.
+    pub fn substitute(&self, class: BuiltIn) -> Option<u32> {
+        self.hierarchy.family().substitute(class)
     }
 
     /// Whether a field of a given class is final. False where there is none.

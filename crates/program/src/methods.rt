@@ -8,7 +8,7 @@ ghost use Rattle.program.specs.Programs.{is_abstract_method, is_left_out};
 ghost use Rattle.program.specs.Programs.{IsMethodCode, IsImplementation};
 ghost use Rattle.program.specs.steps.ResolvedConstants.{HoldsClasses};
 
-use crate::class::{Implementation, MethodCode, Methods};
+use crate::class::{Implementation, MethodCode, Methods, Native};
 use crate::linked_file::LinkedFile;
 use bytecode::decode;
 use classfile::flags::{ABSTRACT, NATIVE, STATIC, SYNCHRONIZED, has_flag};
@@ -100,6 +100,54 @@ fn code_of(
     })
 }
 
+/// Which of the native methods it is that the machine has.
+fn native_of(file: &ClassFile, method: &Member) -> Option<Native> {
+    let flags = method.access_flags;
+    if !has_flag(flags, NATIVE) || !has_flag(flags, STATIC) || has_flag(flags, SYNCHRONIZED) {
+        return None;
+    }
+    let class = file.class_name(file.this_class())?;
+    let name = text_at(file, method.name);
+    let descriptor = text_at(file, method.descriptor);
+    if class == b"preinit/java/lang/String".as_slice() {
+        return native_of_string(name, descriptor);
+    }
+    if class == b"preinit/java/lang/Object".as_slice() {
+        return native_of_object(name, descriptor);
+    }
+    if class == b"preinit/java/lang/Throwable".as_slice() {
+        return native_of_throwable(name, descriptor);
+    }
+    None
+}
+
+fn native_of_string(name: &[u8], descriptor: &[u8]) -> Option<Native> {
+    if name == b"constantLength".as_slice() && descriptor == b"(Ljava/lang/Object;)I".as_slice() {
+        return Some(Native::ConstantLength);
+    }
+    if name == b"constantAt".as_slice() && descriptor == b"(Ljava/lang/Object;I)C".as_slice() {
+        return Some(Native::ConstantAt);
+    }
+    None
+}
+
+fn native_of_object(name: &[u8], descriptor: &[u8]) -> Option<Native> {
+    if name == b"className".as_slice() && descriptor == b"(Ljava/lang/Object;)[C".as_slice() {
+        return Some(Native::ClassName);
+    }
+    if name == b"classNumber".as_slice() && descriptor == b"(Ljava/lang/Object;)I".as_slice() {
+        return Some(Native::ClassNumber);
+    }
+    None
+}
+
+fn native_of_throwable(name: &[u8], descriptor: &[u8]) -> Option<Native> {
+    if name == b"raise".as_slice() && descriptor == b"(Ljava/lang/Throwable;)V".as_slice() {
+        return Some(Native::Raise);
+    }
+    None
+}
+
 fn implementation_of(
     alloc: Global,
     linked: &LinkedFile<'_>,
@@ -112,7 +160,10 @@ fn implementation_of(
         return Ok(Implementation::Abstract);
     }
     if is_left_out(linked.file, method) {
-        return Ok(Implementation::Unsupported);
+        return match native_of(linked.file, method) {
+            Some(native) => Ok(Implementation::Native(native)),
+            None => Ok(Implementation::Unsupported),
+        };
     }
     let Some(code) = method.code() else {
         return Ok(Implementation::Abstract);

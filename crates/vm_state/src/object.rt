@@ -80,6 +80,16 @@ impl Slots {
         Ok(Slots { elements })
     }
 
+    /// These chars.
+    ///
+    /// # Errors
+    /// `AllocError` where memory is refused.
+    pub fn of_chars(alloc: Global, chars: &[u16]) -> Result<Slots, AllocError> {
+        Ok(Slots {
+            elements: Elements::Chars(Vec::from_slice(alloc, chars)?),
+        })
+    }
+
     /// A copy of the slots.
     ///
     /// # Errors
