@@ -49,3 +49,5 @@ pub mod TheDefaultLemmas
 pub mod SelectionLemmas
 pub mod SelectableLemmas
 pub mod SpecialsLemmas
+pub mod StepsUpLemmas
+pub mod BeyondLemmas

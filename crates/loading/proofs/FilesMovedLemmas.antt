@@ -174,12 +174,12 @@ library_moved files moved m = by_case (has_library files) (has_library moved) re
     by_case true false e g =
         (let there = library_given moved (λ b. is_given_moved files moved m (substitute_name b) (given_library files e b))
         in
-        cc)
+        absurd cc)
     by_case false true e g =
         (let t = moved_the_other_way files moved m in
         let there = library_given files (λ b. is_given_moved moved files t (substitute_name b) (given_library moved g b))
         in
-        cc)
+        absurd cc)
 
 own_moved : (files moved : List ClassFile) (f : ClassFile) → has_library files ≡ has_library moved → (name : List ℕ)
     → is_own files f name ≡ is_own moved f name

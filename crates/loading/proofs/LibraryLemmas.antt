@@ -104,7 +104,7 @@ number_tells files up name (Some c) says = by_case (number_among files name) ref
 
 -- ---- all built-in classes
 
-stands_at : (b : BuiltIn) → get_or all_built_in (number_of_built_in b) builtins.Object ≡ b
+pub stands_at : (b : BuiltIn) → get_or all_built_in (number_of_built_in b) builtins.Object ≡ b
 stands_at builtins.Object = refl
 stands_at _ = refl
 
@@ -112,7 +112,7 @@ read_at : (b : BuiltIn) → slice_get all_built_in (number_of_built_in b) ≡ So
 read_at builtins.Object = refl
 read_at _ = refl
 
-small : (b : BuiltIn) → number_of_built_in b < length all_built_in
+pub small : (b : BuiltIn) → number_of_built_in b < length all_built_in
 small builtins.Object = omega arith
 small _ = omega arith
 

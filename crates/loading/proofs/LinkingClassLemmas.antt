@@ -149,11 +149,10 @@ interface_is : (files : List ClassFile) (f : ClassFile) (s : Superclass) → IsS
     → is_interface f ≡ true → s ≡ super.BuiltIn builtins.Object
 interface_is files f s p kind =
     let object : p.of_name ≡ super.BuiltIn builtins.Object = object_is p.of_name (p.object kind) in
-    p.is ∙ ap (meant files f) object ∙ own (is_interface f) kind
+    p.is ∙ ap (meant files f) object ∙ own
   where
-    own : (i : Bool) → is_interface f ≡ true
-        → meant files f (super.BuiltIn builtins.Object) ≡ super.BuiltIn builtins.Object
-    own i kind = rw kind refl
+    own : meant files f (super.BuiltIn builtins.Object) ≡ super.BuiltIn builtins.Object
+    own = rw kind refl
 
 superclass_among : (files : List ClassFile) (f : ClassFile) (s : Superclass) → AreNamed files → IsSuperclass files f s
     → superclass_meant files f ≡ name_among files s
