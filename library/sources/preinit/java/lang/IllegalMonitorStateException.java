@@ -1,0 +1,10 @@
+package preinit.java.lang;
+
+public class IllegalMonitorStateException extends RuntimeException {
+    public IllegalMonitorStateException() {
+    }
+
+    public IllegalMonitorStateException(java.lang.String message) {
+        super(message);
+    }
+}
