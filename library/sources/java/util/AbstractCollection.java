@@ -44,13 +44,16 @@ public abstract class AbstractCollection<E> implements Collection<E> {
         return (T[]) filled;
     }
 
-    /** An array of another length, of the class of one of objects or of strings: others can't be made here. */
+    /** An array of another length, of the class of one of objects, strings or ints: others can't be made here. */
     static Object[] longer(Object[] array, int length) {
-        String name = preinit.java.lang.String.ofUnits(preinit.java.lang.Object.className(array));
-        if (name.equals("[Ljava.lang.String;")) {
+        if (array instanceof String[]) {
             return new String[length];
         }
-        if (!name.equals("[Ljava.lang.Object;")) {
+        if (array instanceof Integer[]) {
+            return new Integer[length];
+        }
+        String name = preinit.java.lang.String.ofUnits(preinit.java.lang.Object.className(array));
+        if (!name.startsWith("[L") || !name.endsWith("java.lang.Object;")) {
             preinit.java.lang.Error.leftOut("new arrays of the class of another: bring one that is long enough");
         }
         return new Object[length];

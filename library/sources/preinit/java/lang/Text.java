@@ -2,7 +2,6 @@ package preinit.java.lang;
 
 import java.util.IllegalFormatConversionException;
 import java.util.MissingFormatArgumentException;
-import java.util.UnknownFormatConversionException;
 
 /** How strings are cut at patterns, and formatted. */
 final class Text {
@@ -308,14 +307,14 @@ final class Text {
         precision = -1;
         if (at < format.length() && format.charAt(at) == '.') {
             end = endOfDigits(at + 1);
+            precision = end == at + 1 ? 0 : numberAt(at + 1, end);
             if (end == at + 1) {
-                unknownConversion('.');
+                wrong(format.substring(begin, end));
             }
-            precision = numberAt(at + 1, end);
             at = end;
         }
         if (at >= format.length()) {
-            unknownConversion(begin + 1 < format.length() ? format.charAt(begin + 1) : '%');
+            wrong(format.substring(begin));
         }
         conversion = format.charAt(at);
         specifier = format.substring(begin, at + 1);
@@ -343,8 +342,9 @@ final class Text {
         return flags.indexOf(flag) >= 0;
     }
 
-    private static void unknownConversion(char conversion) {
-        Throwable.raise(new UnknownFormatConversionException(String.valueOf(conversion)));
+    /** What is wrong with a format as it is written has no exceptions of its own here. */
+    private static void wrong(java.lang.String specifier) {
+        Error.leftOut("the exception for the format " + specifier);
     }
 
     /** Only these flags may stand with a conversion. */
@@ -374,7 +374,7 @@ final class Text {
                 Error.leftOut("formats of dates");
                 break;
             default:
-                unknownConversion(conversion);
+                wrong(specifier);
         }
         boolean sound = (precise || precision < 0) && !(has('-') && has('0')) && !(has('+') && has(' '))
             && !(width < 0 && (has('-') || has('0'))) && !(conversion == 'n' && width >= 0) && width != 0;
@@ -383,7 +383,7 @@ final class Text {
             sound = sound && allowed.indexOf(flag) >= 0 && flags.indexOf(flag) == i;
         }
         if (!sound) {
-            Error.leftOut("the exception for the format " + specifier);
+            wrong(specifier);
         }
     }
 
@@ -458,7 +458,7 @@ final class Text {
         if ((conversion == 'c' || conversion == 'C') && size > 0 && size < 64) {
             int codePoint = (int) numberOf(value.toString());
             if (codePoint >>> 16 > 16) {
-                Error.leftOut("the exception for the format " + specifier);
+                wrong(specifier);
             }
             return String.ofCodePoint(codePoint);
         }
