@@ -189,7 +189,7 @@ public final class Long extends Number implements Comparable<Long> {
         if (length <= 12 || radix == 10 && length <= 18) {
             return parseLong(text, radix);
         }
-        long first = parseLong(text.substring(0, length - 1), radix);
+        long first = parsedFirst(text.substring(0, length - 1), radix);
         int digit = valueOf(text.charAt(length - 1), radix);
         if (digit < 0) {
             fail("Bad digit at end of " + text);
@@ -199,6 +199,20 @@ public final class Long extends Number implements Comparable<Long> {
             fail("String value " + text + " exceeds range of unsigned long.");
         }
         return first * radix + digit;
+    }
+
+    /** All digits but the last; what is wrong there is told by its index. */
+    private static long parsedFirst(String text, int radix) {
+        long value = 0;
+        for (int at = text.charAt(0) == '+' ? 1 : 0; at < text.length(); at++) {
+            int digit = valueOf(text.charAt(at), radix);
+            boolean tooLarge = digit >= 0 && value <= MAX_VALUE / radix && value * radix > MAX_VALUE - digit;
+            if (digit < 0 || value > MAX_VALUE / radix || tooLarge) {
+                fail("Error at index " + (tooLarge ? at + 1 : at) + " in: \"" + text + "\"");
+            }
+            value = value * radix + digit;
+        }
+        return value;
     }
 
     public static long divideUnsigned(long dividend, long divisor) {

@@ -463,7 +463,7 @@ final class Text {
             return String.ofCodePoint(codePoint);
         }
         if (size == 0 || "dxXo".indexOf(conversion) < 0) {
-            Throwable.raise(new IllegalFormatConversionException(conversion, name));
+            Throwable.raise(new IllegalFormatConversionException(String.lowered(conversion), name));
         }
         return conversion == 'd' ? decimal(value.toString()) : power(numberOf(value.toString()), size);
     }
