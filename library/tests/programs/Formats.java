@@ -29,7 +29,13 @@ class Formats {
             if (k >= SPECIFIERS.length * VALUES.length) {
                 return END;
             }
-            return String.format(SPECIFIERS[k / VALUES.length], VALUES[k % VALUES.length], "second");
+            String specifier = SPECIFIERS[k / VALUES.length];
+            Object value = VALUES[k % VALUES.length];
+            if (specifier.toLowerCase().contains("c") && value instanceof Number
+                && !Character.isValidCodePoint(((Number) value).intValue())) {
+                return "";
+            }
+            return String.format(specifier, value, "second");
         }
     }
 

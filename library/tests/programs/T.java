@@ -42,8 +42,8 @@ abstract class T {
 
     /** The messages of what instructions raise are the virtual machine's own. */
     static String text(Object it) {
-        if (it instanceof ClassCastException) {
-            return "ClassCastException";
+        if (it instanceof ClassCastException || it instanceof ArrayStoreException) {
+            return it instanceof ClassCastException ? "ClassCastException" : "ArrayStoreException";
         }
         if (it instanceof Object[]) {
             StringBuilder out = new StringBuilder("[");

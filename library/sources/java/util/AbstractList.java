@@ -111,6 +111,11 @@ public abstract class AbstractList<E> extends AbstractCollection<E> implements L
         return hash;
     }
 
+    /** The size, without a look whether a part of a list is still one. */
+    int uncheckedSize() {
+        return size();
+    }
+
     static void outOfBounds(String message) {
         preinit.java.lang.Throwable.raise(new IndexOutOfBoundsException(message));
     }
@@ -170,7 +175,7 @@ final class ListCursor<E> implements ListIterator<E> {
     }
 
     public boolean hasNext() {
-        return next != list.size();
+        return next != list.uncheckedSize();
     }
 
     public E next() {
@@ -262,6 +267,20 @@ class SubList<E> extends AbstractList<E> {
     public int size() {
         check();
         return size;
+    }
+
+    int uncheckedSize() {
+        return size;
+    }
+
+    public Iterator<E> iterator() {
+        return listIterator(0);
+    }
+
+    public ListIterator<E> listIterator(int index) {
+        check();
+        checkPlace(index, size);
+        return new ListCursor<E>(this, index);
     }
 
     public E get(int index) {

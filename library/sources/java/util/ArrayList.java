@@ -230,6 +230,7 @@ public class ArrayList<E> extends AbstractList<E> implements RandomAccess, Clone
             elements[i] = operator.apply((E) elements[i]);
         }
         checkCount(seen);
+        modCount++;
     }
 
     @SuppressWarnings("unchecked")

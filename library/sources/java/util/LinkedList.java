@@ -42,7 +42,6 @@ public class LinkedList<E> extends AbstractSequentialList<E> implements Deque<E>
             after.before = link;
         }
         size++;
-        modCount++;
     }
 
     private E unlink(Link<E> link) {
@@ -101,12 +100,13 @@ public class LinkedList<E> extends AbstractSequentialList<E> implements Deque<E>
     }
 
     public boolean add(E element) {
-        link(element, null);
+        addLast(element);
         return true;
     }
 
     public void add(int index, E element) {
         checkPlace(index, size);
+        modCount++;
         link(element, index == size ? null : linkAt(index));
     }
 
@@ -118,6 +118,7 @@ public class LinkedList<E> extends AbstractSequentialList<E> implements Deque<E>
         checkPlace(index, size);
         Object[] added = others.toArray();
         Link<E> after = index == size ? null : linkAt(index);
+        modCount += added.length == 0 ? 0 : 1;
         for (int i = 0; i < added.length; i++) {
             @SuppressWarnings("unchecked")
             E element = (E) added[i];
@@ -168,10 +169,12 @@ public class LinkedList<E> extends AbstractSequentialList<E> implements Deque<E>
     }
 
     public void addFirst(E element) {
+        modCount++;
         link(element, first);
     }
 
     public void addLast(E element) {
+        modCount++;
         link(element, null);
     }
 
@@ -362,6 +365,7 @@ public class LinkedList<E> extends AbstractSequentialList<E> implements Deque<E>
         public void add(E element) {
             check();
             got = null;
+            modCount++;
             link(element, next);
             index++;
             seen++;

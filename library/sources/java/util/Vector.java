@@ -1,5 +1,9 @@
 package java.util;
 
+import java.util.function.Consumer;
+import java.util.function.Predicate;
+import java.util.function.UnaryOperator;
+
 /** As `ArrayList`: without a monitor. */
 public class Vector<E> extends AbstractList<E> implements RandomAccess, Cloneable, java.io.Serializable {
     protected Object[] elementData;
@@ -134,8 +138,7 @@ public class Vector<E> extends AbstractList<E> implements RandomAccess, Cloneabl
             outOfArray(old ? index + " >= " + elementCount : "Array index out of range: " + index);
         }
         if (index < 0) {
-            outOfArray(old ? String.valueOf(index) : "Index " + index + " out of bounds for length "
-                + elementData.length);
+            outOfArray("Index " + index + " out of bounds for length " + elementData.length);
         }
     }
 
@@ -170,6 +173,9 @@ public class Vector<E> extends AbstractList<E> implements RandomAccess, Cloneabl
     }
 
     public void removeElementAt(int index) {
+        if (index < 0) {
+            outOfArray("Array index out of range: " + index);
+        }
         check(index, true);
         removeRange(index, index + 1);
     }
@@ -253,6 +259,85 @@ public class Vector<E> extends AbstractList<E> implements RandomAccess, Cloneabl
             elementData[elementCount++] = added[i];
         }
         return added.length != 0;
+    }
+
+    public boolean addAll(int index, Collection<? extends E> others) {
+        if (index < 0 || index > elementCount) {
+            outOfArray("Array index out of range: " + index);
+        }
+        Object[] added = others.toArray();
+        modCount++;
+        room(elementCount + added.length);
+        for (int i = elementCount - 1; i >= index; i--) {
+            elementData[i + added.length] = elementData[i];
+        }
+        for (int i = 0; i < added.length; i++) {
+            elementData[index + i] = added[i];
+        }
+        elementCount += added.length;
+        return added.length != 0;
+    }
+
+    public ListIterator<E> listIterator(int index) {
+        if (index < 0 || index > elementCount) {
+            outOfBounds("Index: " + index);
+        }
+        return new ListCursor<E>(this, index);
+    }
+
+    private void checkCount(int seen) {
+        if (modCount != seen) {
+            preinit.java.lang.Throwable.raise(new ConcurrentModificationException());
+        }
+    }
+
+    public void forEach(Consumer<? super E> action) {
+        preinit.java.lang.Throwable.checkNotNull(action);
+        int seen = modCount;
+        int count = elementCount;
+        for (int i = 0; modCount == seen && i < count; i++) {
+            action.accept(at(i));
+        }
+        checkCount(seen);
+    }
+
+    public void replaceAll(UnaryOperator<E> operator) {
+        preinit.java.lang.Throwable.checkNotNull(operator);
+        int seen = modCount;
+        int count = elementCount;
+        for (int i = 0; modCount == seen && i < count; i++) {
+            elementData[i] = operator.apply(at(i));
+        }
+        checkCount(seen);
+        modCount++;
+    }
+
+    public boolean removeIf(Predicate<? super E> condition) {
+        preinit.java.lang.Throwable.checkNotNull(condition);
+        int seen = modCount;
+        boolean[] removed = new boolean[elementCount];
+        for (int i = 0; modCount == seen && i < removed.length; i++) {
+            removed[i] = condition.test(at(i));
+        }
+        checkCount(seen);
+        int kept = 0;
+        for (int i = 0; i < removed.length; i++) {
+            if (!removed[i]) {
+                elementData[kept++] = elementData[i];
+            }
+        }
+        if (kept == removed.length) {
+            return false;
+        }
+        removeRange(kept, removed.length);
+        return true;
+    }
+
+    public void sort(Comparator<? super E> comparator) {
+        int seen = modCount;
+        Sorting.sort(elementData, 0, elementCount, comparator);
+        checkCount(seen);
+        modCount++;
     }
 
     protected void removeRange(int from, int to) {

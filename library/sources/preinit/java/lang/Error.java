@@ -22,6 +22,7 @@ public class Error extends Throwable {
 
     /** Raises an error: what a program asks for here is none of the library. */
     public static void leftOut(java.lang.String what) {
-        Throwable.raise(new java.lang.Error("the library leaves out " + what));
+        Error error = new Error("the library leaves out " + what);
+        Throwable.raise((java.lang.Throwable) (java.lang.Object) error);
     }
 }

@@ -412,7 +412,7 @@ final class Text {
         } else {
             java.lang.Object value = value();
             java.lang.String text = written(value);
-            if (precision >= 0 && precision < text.length() && "bBhHsS".indexOf(conversion) >= 0) {
+            if (precision >= 0 && precision < text.length()) {
                 text = text.substring(0, precision);
             }
             write(conversion >= 'A' && conversion <= 'Z' ? text.toUpperCase() : text);
