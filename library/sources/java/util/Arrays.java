@@ -828,4 +828,29 @@ final class ArrayAsList<E> extends AbstractList<E> implements RandomAccess, java
     public void sort(Comparator<? super E> comparator) {
         Arrays.sort(array, comparator);
     }
+
+    public Iterator<E> iterator() {
+        return new ArrayElements<E>(array);
+    }
+}
+
+/** Goes over an array, from which nothing can be removed. */
+final class ArrayElements<E> implements Iterator<E> {
+    private final E[] array;
+    private int next;
+
+    ArrayElements(E[] array) {
+        this.array = array;
+    }
+
+    public boolean hasNext() {
+        return next < array.length;
+    }
+
+    public E next() {
+        if (next >= array.length) {
+            preinit.java.lang.Throwable.raise(new NoSuchElementException());
+        }
+        return array[next++];
+    }
 }

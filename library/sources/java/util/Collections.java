@@ -422,7 +422,7 @@ final class Singleton<E> extends AbstractSet<E> implements java.io.Serializable 
     }
 
     public Iterator<E> iterator() {
-        return new Copies<E>(1, element).iterator();
+        return new UnmodifiableCursor<E>(new Copies<E>(1, element).iterator());
     }
 }
 
