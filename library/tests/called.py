@@ -110,7 +110,7 @@ def wanted(classes):
 def is_own(name, its, of):
     """What is public in the library for its own classes, and no method of Java's."""
     text = f"{name}.{its}{of}"
-    return text in OWN or its in OWN
+    return text in OWN or its in OWN or text in SELECTED or text in UNREACHED
 
 
 OWN = {"preinit/java/lang/String.ofUnits([C)Ljava/lang/String;", "lowered", "raised", "toPowerOfTwo", "ofCodePoint",
@@ -119,16 +119,27 @@ OWN = {"preinit/java/lang/String.ofUnits([C)Ljava/lang/String;", "lowered", "rai
        "preinit/java/lang/String.offsetByCodePoints(Ljava/lang/CharSequence;II)I",
        "java/lang/Class.of(Ljava/lang/Object;I)Ljava/lang/Class;",
        "java/util/IllegalFormatConversionException.<init>(CLjava/lang/String;)V",
-       "preinit/java/lang/Enum.<init>(Ljava/lang/String;I)V"}
+       "preinit/java/lang/Enum.<init>(Ljava/lang/String;I)V",
+       "java/util/function/ToIntFunction.applyAsLong(Ljava/lang/Object;)J"}
+# Called where a test calls Object's method, which javac names, on an object of these classes.
+SELECTED = {"preinit/java/lang/Throwable.equals(Ljava/lang/Object;)Z", "preinit/java/lang/Throwable.hashCode()I",
+            "preinit/java/lang/Throwable.getClass()Ljava/lang/Class;",
+            "preinit/java/lang/Enum.getClass()Ljava/lang/Class;", "java/lang/Number.equals(Ljava/lang/Object;)Z",
+            "java/lang/Number.hashCode()I", "java/lang/Number.toString()Ljava/lang/String;"}
+# A call on System.out that names Object is a fault, so no program of javac's gets there.
+UNREACHED = {"preinit/java/io/PrintStream.equals(Ljava/lang/Object;)Z", "preinit/java/io/PrintStream.hashCode()I",
+             "preinit/java/io/PrintStream.toString()Ljava/lang/String;"}
 
 
 def uncalled(files):
     classes = library()
-    called = set()
+    everything = dict(classes)
+    tests = []
     for file in files:
         with open(file, "rb") as it:
-            for reference in ClassFile(it.read()).references:
-                called.update(resolved(classes, *reference))
+            tests.append(ClassFile(it.read()))
+        everything[tests[-1].name] = tests[-1]
+    called = {method for test in tests for reference in test.references for method in resolved(everything, *reference)}
     return sorted(f"{name}.{its}{of}" for name, its, of in wanted(classes)
                   if (name, its, of) not in called and not is_own(name, its, of))
 

@@ -509,7 +509,7 @@ class Collected {
                 case 11: return b + " " + b.size() + b.isEmpty() + b.contains(null) + b.contains("q") + b.remove("x") + b.remove("q") + b + b.addAll(Arrays.asList("a", "b")) + b.removeAll(Arrays.asList("a")) + b.retainAll(Arrays.asList("b", "y")) + b + b.containsAll(Arrays.asList("b")) + text(b.toArray()) + text(b.toArray(new String[5])) + b.equals(b);
                 case 12: b.clear(); return b + " " + b.size();
                 case 13: return new AbstractCollection<String>() { public Iterator<String> iterator() { return b.iterator(); } public int size() { return 1; } }.add("x");
-                case 14: return p + " " + p.size() + p.isEmpty() + p.get("two") + p.get("x") + p.get(null) + p.containsKey("one") + p.containsKey(null) + p.containsValue(2) + p.containsValue(9) + p.keySet() + p.values() + p.hashCode() + p.equals(new HashMap<String, Integer>(p));
+                case 14: return p.toString() + " " + p.size() + p.isEmpty() + p.get("two") + p.get("x") + p.get(null) + p.containsKey("one") + p.containsKey(null) + p.containsValue(2) + p.containsValue(9) + p.keySet() + p.values() + p.hashCode() + p.equals(new HashMap<String, Integer>(p));
                 case 15: return p.put("x", 1);
                 case 16: return p.remove("one") + " " + p.remove("q") + p;
                 case 17: p.clear(); return p;

@@ -76,6 +76,8 @@ class Others {
                 case 38: class Local { } return new Local().getClass().getSimpleName() + " " + new Local().getClass() + new ArrayList<String>().getClass() + Integer.valueOf(5).getClass() + (5 == 5 ? (Object) 5L : "x").getClass().getName();
                 case 39: return ((Object) Color.RED).getClass().getName() + new ArithmeticException().getClass().getSimpleName() + new RuntimeException().getClass().getTypeName();
                 case 40: { class F { void run() throws Throwable { super.finalize(); } } new F().run(); return "finalized"; }
+                case 41: return a.toString() + b.toString() + new StringJoiner("").toString() + "a".getClass().toString() + new AbstractMap.SimpleEntry<String, String>("k", "v").toString() + new AbstractMap.SimpleImmutableEntry<String, String>("k", "v").toString();
+                case 42: return new ArrayList<String>(Arrays.asList("l")).listIterator().next() + new Random(1) { int bits() { return next(7); } }.bits();
                 default: return END;
             }
         }

@@ -64,10 +64,6 @@ public class PrintStream extends PrintStreamStub {
         return 1;
     }
 
-    public final Class<?> getClass0() {
-        return Class.of(this, preinit.java.lang.Object.classNumber(this));
-    }
-
     public String toString() {
         return "java.io.PrintStream@1";
     }
