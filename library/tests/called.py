@@ -113,7 +113,7 @@ def is_own(name, its, of):
     return text in OWN or its in OWN or text in SELECTED or text in UNREACHED
 
 
-OWN = {"preinit/java/lang/String.ofUnits([C)Ljava/lang/String;", "lowered", "raised", "toPowerOfTwo", "ofCodePoint",
+OWN = {"preinit/java/lang/String.ofUnits([C)Ljava/lang/String;", "lowered", "raised", "lengthOf", "putDigits", "putUnits", "toPowerOfTwo", "ofCodePoint",
        "preinit/java/lang/String.toHexString(I)Ljava/lang/String;", "leftOut", "checkNotNull", "keep",
        "preinit/java/lang/String.indexOf([CI[CI)I", "preinit/java/lang/String.lastIndexOf([CI[CI)I",
        "preinit/java/lang/String.offsetByCodePoints(Ljava/lang/CharSequence;II)I",

@@ -24,7 +24,7 @@ class Characters {
             bits(out, Character.isLetterOrDigit(c), Character.isLetterOrDigit(k), Character.isAlphabetic(k), Character.isMirrored(c));
             bits(out, Character.isJavaIdentifierStart(c), Character.isJavaIdentifierStart(k), Character.isJavaIdentifierPart(c), Character.isJavaIdentifierPart(k));
             bits(out, Character.isUnicodeIdentifierStart(c), Character.isUnicodeIdentifierStart(k), Character.isUnicodeIdentifierPart(c), Character.isUnicodeIdentifierPart(k));
-            bits(out, Character.isIdentifierIgnorable(c), Character.isIdentifierIgnorable(k), Character.isSpace(c), Character.isMirrored(k));
+            bits(out, Character.isIdentifierIgnorable(c), Character.isIdentifierIgnorable(k), Character.isSpace(c), Character.isMirrored(k) || Character.isIdeographic(k));
             bits(out, Character.isSpaceChar(c), Character.isSpaceChar(k), Character.isWhitespace(c), Character.isWhitespace(k));
             bits(out, Character.isISOControl(c), Character.isISOControl(k), Character.isJavaLetter(c), Character.isJavaLetterOrDigit(c));
             out.append((int) Character.toLowerCase(c)).append(' ').append(Character.toLowerCase(k)).append(' ');

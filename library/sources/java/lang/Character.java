@@ -316,6 +316,10 @@ public final class Character extends preinit.java.lang.EnumStub implements java.
         return isLetter(codePoint);
     }
 
+    public static boolean isIdeographic(int codePoint) {
+        return codePoint > 255 && leftOut() != 0;
+    }
+
     public static boolean isJavaIdentifierStart(char unit) {
         return isJavaIdentifierStart((int) unit);
     }

@@ -7,7 +7,7 @@ package java.lang;
  * against each initializer that may ask for a class.
  */
 public final class Class<T> {
-    private static final int ROOM = 1024;
+    private static final int ROOM = 512;
     private static final Class<?>[] ALL = new Class<?>[ROOM];
 
     static {
@@ -24,7 +24,7 @@ public final class Class<T> {
     /** The class of an object, by its number. */
     public static Class<?> of(Object object, int number) {
         if (number < 0 || number >= ROOM) {
-            preinit.java.lang.Error.leftOut("getClass of an array, and of more than 1024 classes");
+            preinit.java.lang.Error.leftOut("getClass of an array, and of more than 512 classes");
         }
         Class<?> it = ALL[number];
         if (it.name == null) {

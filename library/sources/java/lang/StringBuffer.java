@@ -153,10 +153,12 @@ public final class StringBuffer implements CharSequence, java.io.Serializable {
 
     public StringBuffer append(String text) {
         String added = text == null ? "null" : text;
-        int length = added.length();
-        ensureCapacity(count + length);
-        added.getChars(0, length, units, count);
-        count += length;
+        int end = count + added.length();
+        if (end > units.length) {
+            ensureCapacity(end);
+        }
+        ((preinit.java.lang.String) (Object) added).putUnits(units, count);
+        count = end;
         return this;
     }
 
@@ -204,7 +206,13 @@ public final class StringBuffer implements CharSequence, java.io.Serializable {
     }
 
     public StringBuffer append(int number) {
-        return append(String.valueOf(number));
+        int end = count + preinit.java.lang.String.lengthOf(number);
+        if (end > units.length) {
+            ensureCapacity(end);
+        }
+        preinit.java.lang.String.putDigits(number, units, end);
+        count = end;
+        return this;
     }
 
     public StringBuffer append(long number) {

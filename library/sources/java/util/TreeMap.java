@@ -60,8 +60,7 @@ public class TreeMap<K, V> extends AbstractMap<K, V>
         if (comparator != null) {
             return ((Comparator<Object>) comparator).compare(one, other);
         }
-        preinit.java.lang.Throwable.checkNotNull(one);
-        return ((Comparable<Object>) one).compareTo(preinit.java.lang.Throwable.checkNotNull(other));
+        return ((Comparable<Object>) one).compareTo(other);
     }
 
     final Node<K, V> find(Object key) {

@@ -199,8 +199,15 @@ public final class String implements java.io.Serializable, Comparable<java.lang.
     public void getChars(int begin, int end, char[] to, int at) {
         checkRange(begin, end, length());
         checkCount(at, end - begin, to.length);
-        for (int i = begin; i < end; i++) {
-            to[at++] = charAt(i);
+        char[] from = value;
+        if (from == null) {
+            for (int i = begin; i < end; i++) {
+                to[at++] = constantAt(this, i);
+            }
+        } else {
+            for (int i = begin; i < end; i++) {
+                to[at++] = from[i];
+            }
         }
     }
 
@@ -360,9 +367,10 @@ public final class String implements java.io.Serializable, Comparable<java.lang.
         if (codePoint >>> 16 != 0) {
             return codePoint >>> 16 > 16 ? -1 : indexOf(ofCodePoint(codePoint), from);
         }
+        char[] units = value;
         int length = length();
         for (int i = from < 0 ? 0 : from; i < length; i++) {
-            if (charAt(i) == codePoint) {
+            if ((units != null ? units[i] : constantAt(this, i)) == codePoint) {
                 return i;
             }
         }
@@ -680,24 +688,54 @@ public final class String implements java.io.Serializable, Comparable<java.lang.
     }
 
     public static java.lang.String valueOf(int number) {
-        if (number == 0x80000000) {
-            return "-2147483648";
-        }
-        int rest = number < 0 ? -number : number;
+        int length = lengthOf(number);
+        char[] units = new char[length];
+        putDigits(number, units, length);
+        return ofUnits(units);
+    }
+
+    /** How many units a number takes. */
+    public static int lengthOf(int number) {
         int length = number < 0 ? 2 : 1;
-        for (int least = 10; rest >= least; least *= 10) {
+        int rest = number < 0 ? -number : number;
+        if (rest < 0) {
+            return 11;
+        }
+        while (rest >= 10) {
+            rest /= 10;
             length++;
-            if (least == 1000000000) {
-                break;
+        }
+        return length;
+    }
+
+    /** Puts the units of a number where they end before an index. */
+    public static void putDigits(int number, char[] units, int end) {
+        int at = end;
+        int rest = number < 0 ? number : -number;
+        while (rest <= -10) {
+            int tenth = rest / 10;
+            units[--at] = (char) ('0' + 10 * tenth - rest);
+            rest = tenth;
+        }
+        units[--at] = (char) ('0' - rest);
+        if (number < 0) {
+            units[--at] = '-';
+        }
+    }
+
+    /** Puts the units where there is room for them. */
+    public void putUnits(char[] to, int at) {
+        char[] from = value;
+        if (from == null) {
+            int length = constantLength(this);
+            for (int i = 0; i < length; i++) {
+                to[at + i] = constantAt(this, i);
+            }
+        } else {
+            for (int i = 0; i < from.length; i++) {
+                to[at + i] = from[i];
             }
         }
-        char[] units = new char[length];
-        units[0] = '-';
-        for (int at = length - 1; at > 0 || at == 0 && number >= 0; at--) {
-            units[at] = (char) ('0' + rest % 10);
-            rest /= 10;
-        }
-        return ofUnits(units);
     }
 
     public static java.lang.String valueOf(long number) {
