@@ -126,7 +126,7 @@ public class ArrayList<E> extends AbstractList<E> implements RandomAccess, Clone
     public E remove(int index) {
         checkIndex(index, size);
         E old = (E) elements[index];
-        removeRange(index, index + 1);
+        cut(index, index + 1);
         return old;
     }
 
@@ -135,11 +135,15 @@ public class ArrayList<E> extends AbstractList<E> implements RandomAccess, Clone
         if (index < 0) {
             return false;
         }
-        removeRange(index, index + 1);
+        cut(index, index + 1);
         return true;
     }
 
     protected void removeRange(int from, int to) {
+        cut(from, to);
+    }
+
+    private void cut(int from, int to) {
         modCount++;
         Object[] all = elements;
         int count = to - from;
@@ -153,7 +157,30 @@ public class ArrayList<E> extends AbstractList<E> implements RandomAccess, Clone
     }
 
     public void clear() {
-        removeRange(0, size);
+        cut(0, size);
+    }
+
+    public boolean removeAll(Collection<?> others) {
+        return keep(others, false);
+    }
+
+    public boolean retainAll(Collection<?> others) {
+        return keep(others, true);
+    }
+
+    private boolean keep(Collection<?> others, boolean kept) {
+        preinit.java.lang.Throwable.checkNotNull(others);
+        int count = 0;
+        for (int i = 0; i < size; i++) {
+            if (others.contains(elements[i]) == kept) {
+                elements[count++] = elements[i];
+            }
+        }
+        if (count == size) {
+            return false;
+        }
+        cut(count, size);
+        return true;
     }
 
     public boolean contains(Object object) {
@@ -251,7 +278,7 @@ public class ArrayList<E> extends AbstractList<E> implements RandomAccess, Clone
         if (kept == removed.length) {
             return false;
         }
-        removeRange(kept, removed.length);
+        cut(kept, removed.length);
         return true;
     }
 

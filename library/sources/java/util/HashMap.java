@@ -70,7 +70,7 @@ public class HashMap<K, V> extends AbstractMap<K, V> implements Cloneable, java.
     }
 
     public HashMap(Map<? extends K, ? extends V> others) {
-        putAll(others);
+        putEach(others);
     }
 
     private static int lengthFor(int room) {
@@ -258,6 +258,10 @@ public class HashMap<K, V> extends AbstractMap<K, V> implements Cloneable, java.
     }
 
     public void putAll(Map<? extends K, ? extends V> others) {
+        putEach(others);
+    }
+
+    final void putEach(Map<? extends K, ? extends V> others) {
         int count = others.size();
         if (count > 0) {
             if (table == null) {

@@ -22,7 +22,7 @@ public class LinkedHashMap<K, V> extends HashMap<K, V> {
     }
 
     public LinkedHashMap(Map<? extends K, ? extends V> others) {
-        putAll(others);
+        putEach(others);
     }
 
     Node<K, V> made(int hash, K key, V value, Node<K, V> next) {

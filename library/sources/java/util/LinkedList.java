@@ -100,7 +100,8 @@ public class LinkedList<E> extends AbstractSequentialList<E> implements Deque<E>
     }
 
     public boolean add(E element) {
-        addLast(element);
+        modCount++;
+        link(element, null);
         return true;
     }
 
@@ -132,7 +133,13 @@ public class LinkedList<E> extends AbstractSequentialList<E> implements Deque<E>
     }
 
     public boolean remove(Object object) {
-        return removeFirstOccurrence(object);
+        for (Link<E> link = first; link != null; link = link.after) {
+            if (Objects.equals(object, link.element)) {
+                unlink(link);
+                return true;
+            }
+        }
+        return false;
     }
 
     public boolean contains(Object object) {
@@ -221,13 +228,7 @@ public class LinkedList<E> extends AbstractSequentialList<E> implements Deque<E>
     }
 
     public boolean removeFirstOccurrence(Object object) {
-        for (Link<E> link = first; link != null; link = link.after) {
-            if (Objects.equals(object, link.element)) {
-                unlink(link);
-                return true;
-            }
-        }
-        return false;
+        return remove(object);
     }
 
     public boolean removeLastOccurrence(Object object) {

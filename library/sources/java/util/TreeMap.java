@@ -361,7 +361,7 @@ public class TreeMap<K, V> extends AbstractMap<K, V>
         int seen = changes;
         V value = function.apply(key);
         checkCount(seen);
-        return value == null ? null : Map.keep(this, key, value, false);
+        return value == null ? null : kept(node, key, value);
     }
 
     public V computeIfPresent(K key, BiFunction<? super K, ? super V, ? extends V> function) {
@@ -373,7 +373,7 @@ public class TreeMap<K, V> extends AbstractMap<K, V>
         int seen = changes;
         V value = function.apply(key, node.getValue());
         checkCount(seen);
-        return Map.keep(this, key, value, true);
+        return kept(node, key, value);
     }
 
     public V compute(K key, BiFunction<? super K, ? super V, ? extends V> function) {
@@ -382,7 +382,7 @@ public class TreeMap<K, V> extends AbstractMap<K, V>
         int seen = changes;
         V value = function.apply(key, node == null ? null : node.getValue());
         checkCount(seen);
-        return Map.keep(this, key, value, node != null);
+        return kept(node, key, value);
     }
 
     public V merge(K key, V value, BiFunction<? super V, ? super V, ? extends V> function) {
@@ -395,7 +395,19 @@ public class TreeMap<K, V> extends AbstractMap<K, V>
             merged = function.apply(node.getValue(), value);
             checkCount(seen);
         }
-        return Map.keep(this, key, merged, node != null);
+        return kept(node, key, merged);
+    }
+
+    /** A value for a key and its node, if it has one; or none. */
+    private V kept(Node<K, V> node, K key, V value) {
+        if (value == null && node != null) {
+            unlink(node);
+        } else if (node != null) {
+            node.setValue(value);
+        } else if (value != null) {
+            put(key, value, false);
+        }
+        return value;
     }
 
     private Node<K, V> foundToCompute(K key) {

@@ -198,7 +198,9 @@ public class Vector<E> extends AbstractList<E> implements RandomAccess, Cloneabl
     }
 
     public void addElement(E element) {
-        add(element);
+        modCount++;
+        room(elementCount + 1);
+        elementData[elementCount++] = element;
     }
 
     public boolean removeElement(Object object) {

@@ -10,11 +10,11 @@ public abstract class Enum extends EnumStub implements Comparable<java.lang.Enum
         return name();
     }
 
-    public final boolean equals(java.lang.Object other) {
+    public boolean equals(java.lang.Object other) {
         return this == other;
     }
 
-    public final int hashCode() {
+    public int hashCode() {
         return ordinal() + 1;
     }
 
