@@ -1,16 +1,13 @@
 package java.util;
 
-/** What is said of arrays of arrays. */
+/** Whether two objects are equal, arrays by their elements; on its own, so that `Objects` brings few classes. */
 final class Deep {
     private Deep() {
     }
 
     static boolean equal(Object one, Object other) {
-        if (one == other) {
-            return true;
-        }
-        if (one == null || other == null) {
-            return false;
+        if (one == other || one == null || other == null) {
+            return one == other;
         }
         if (one instanceof Object[] && other instanceof Object[]) {
             Object[] some = (Object[]) one;
@@ -22,69 +19,71 @@ final class Deep {
             return same;
         }
         if (one instanceof int[] && other instanceof int[]) {
-            return Arrays.equals((int[]) one, (int[]) other);
+            return equal((int[]) one, (int[]) other);
         }
         if (one instanceof long[] && other instanceof long[]) {
-            return Arrays.equals((long[]) one, (long[]) other);
+            return equal((long[]) one, (long[]) other);
         }
         if (one instanceof char[] && other instanceof char[]) {
-            return Arrays.equals((char[]) one, (char[]) other);
+            return equal((char[]) one, (char[]) other);
         }
         if (one instanceof byte[] && other instanceof byte[]) {
-            return Arrays.equals((byte[]) one, (byte[]) other);
+            return equal((byte[]) one, (byte[]) other);
         }
         if (one instanceof short[] && other instanceof short[]) {
-            return Arrays.equals((short[]) one, (short[]) other);
+            return equal((short[]) one, (short[]) other);
         }
         if (one instanceof boolean[] && other instanceof boolean[]) {
-            return Arrays.equals((boolean[]) one, (boolean[]) other);
+            return equal((boolean[]) one, (boolean[]) other);
         }
         return one.equals(other);
     }
 
-    static int hash(Object object) {
-        if (object instanceof Object[]) {
-            Object[] array = (Object[]) object;
-            int hash = 1;
-            for (int i = 0; i < array.length; i++) {
-                hash = 31 * hash + hash(array[i]);
-            }
-            return hash;
+    private static boolean equal(int[] one, int[] other) {
+        boolean same = one.length == other.length;
+        for (int i = 0; same && i < one.length; i++) {
+            same = one[i] == other[i];
         }
-        return object instanceof int[] ? Arrays.hashCode((int[]) object)
-            : object instanceof long[] ? Arrays.hashCode((long[]) object)
-            : object instanceof char[] ? Arrays.hashCode((char[]) object)
-            : object instanceof byte[] ? Arrays.hashCode((byte[]) object)
-            : object instanceof short[] ? Arrays.hashCode((short[]) object)
-            : object instanceof boolean[] ? Arrays.hashCode((boolean[]) object)
-            : Objects.hashCode(object);
+        return same;
     }
 
-    static String text(Object object, ArrayList<Object> around) {
-        if (object instanceof Object[]) {
-            return textOf((Object[]) object, around);
+    private static boolean equal(long[] one, long[] other) {
+        boolean same = one.length == other.length;
+        for (int i = 0; same && i < one.length; i++) {
+            same = one[i] == other[i];
         }
-        return object instanceof int[] ? Arrays.toString((int[]) object)
-            : object instanceof long[] ? Arrays.toString((long[]) object)
-            : object instanceof char[] ? Arrays.toString((char[]) object)
-            : object instanceof byte[] ? Arrays.toString((byte[]) object)
-            : object instanceof short[] ? Arrays.toString((short[]) object)
-            : object instanceof boolean[] ? Arrays.toString((boolean[]) object)
-            : String.valueOf(object);
+        return same;
     }
 
-    private static String textOf(Object[] array, ArrayList<Object> around) {
-        for (int i = 0; i < around.size(); i++) {
-            if (around.get(i) == array) {
-                return "[...]";
-            }
+    private static boolean equal(char[] one, char[] other) {
+        boolean same = one.length == other.length;
+        for (int i = 0; same && i < one.length; i++) {
+            same = one[i] == other[i];
         }
-        around.add(array);
-        StringBuilder out = new StringBuilder().append('[');
-        for (int i = 0; i < array.length; i++) {
-            out.append(i == 0 ? "" : ", ").append(text(array[i], around));
+        return same;
+    }
+
+    private static boolean equal(byte[] one, byte[] other) {
+        boolean same = one.length == other.length;
+        for (int i = 0; same && i < one.length; i++) {
+            same = one[i] == other[i];
         }
-        around.remove(around.size() - 1);
-        return out.append(']').toString();
+        return same;
+    }
+
+    private static boolean equal(short[] one, short[] other) {
+        boolean same = one.length == other.length;
+        for (int i = 0; same && i < one.length; i++) {
+            same = one[i] == other[i];
+        }
+        return same;
+    }
+
+    private static boolean equal(boolean[] one, boolean[] other) {
+        boolean same = one.length == other.length;
+        for (int i = 0; same && i < one.length; i++) {
+            same = one[i] == other[i];
+        }
+        return same;
     }
 }

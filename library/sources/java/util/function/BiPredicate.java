@@ -23,7 +23,8 @@ final class BiPredicateOf<T, U> implements BiPredicate<T, U> {
     private final boolean both;
     private final boolean contrary;
 
-    BiPredicateOf(BiPredicate<? super T, ? super U> first, BiPredicate<? super T, ? super U> second, boolean both, boolean contrary) {
+    BiPredicateOf(BiPredicate<? super T, ? super U> first, BiPredicate<? super T, ? super U> second, boolean both,
+        boolean contrary) {
         this.first = first;
         this.second = second;
         this.both = both;
@@ -34,6 +35,7 @@ final class BiPredicateOf<T, U> implements BiPredicate<T, U> {
         if (contrary) {
             return !first.test(one, other);
         }
-        return both ? first.test(one, other) && second.test(one, other) : first.test(one, other) || second.test(one, other);
+        return both ? first.test(one, other) && second.test(one, other)
+            : first.test(one, other) || second.test(one, other);
     }
 }

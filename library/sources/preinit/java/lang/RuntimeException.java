@@ -16,7 +16,8 @@ public class RuntimeException extends Exception {
         super(cause);
     }
 
-    protected RuntimeException(java.lang.String message, java.lang.Throwable cause, boolean suppresses, boolean traces) {
+    protected RuntimeException(java.lang.String message, java.lang.Throwable cause, boolean suppresses,
+        boolean traces) {
         super(message, cause, suppresses, traces);
     }
 }

@@ -44,26 +44,14 @@ public final class String implements java.io.Serializable, Comparable<java.lang.
 
     public String(int[] codePoints, int offset, int count) {
         checkCount(offset, count, codePoints.length);
-        int length = 0;
+        StringBuilder out = new StringBuilder(count);
         for (int i = offset; i < offset + count; i++) {
-            int codePoint = codePoints[i];
-            if (codePoint >>> 16 > 16) {
-                Throwable.raise(new IllegalArgumentException(valueOf(codePoint)));
+            if (codePoints[i] >>> 16 > 16) {
+                Throwable.raise(new IllegalArgumentException(valueOf(codePoints[i])));
             }
-            length += codePoint >>> 16 == 0 ? 1 : 2;
+            out.append(ofCodePoint(codePoints[i]));
         }
-        char[] own = new char[length];
-        int at = 0;
-        for (int i = offset; i < offset + count; i++) {
-            int codePoint = codePoints[i];
-            if (codePoint >>> 16 == 0) {
-                own[at++] = (char) codePoint;
-            } else {
-                own[at++] = highSurrogate(codePoint);
-                own[at++] = lowSurrogate(codePoint);
-            }
-        }
-        value = own;
+        value = unitsOf(out.toString());
     }
 
     /** Of units that nobody writes any more. */
@@ -785,11 +773,11 @@ public final class String implements java.io.Serializable, Comparable<java.lang.
     }
 
     private static boolean isHigh(char unit) {
-        return unit >= '\ud800' && unit <= '\udbff';
+        return unit >> 10 == 0x36;
     }
 
     private static boolean isLow(char unit) {
-        return unit >= '\udc00' && unit <= '\udfff';
+        return unit >> 10 == 0x37;
     }
 
     private static int codePoint(char high, char low) {
