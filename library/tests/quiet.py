@@ -2,7 +2,8 @@
 """Asks that nothing in the library stands against an initializer that may come there, by javap.
 
 So no method throws, uses a monitor or an instruction that is left out, none but a class's initializer writes a static
-field, and each static field is final.
+field, and each static field is final. Nor does a substitute make an object of the class that it stands for, which has
+no fields: in its own file `new java.lang.Error(message)` would.
 """
 import os
 import re
@@ -27,6 +28,8 @@ def loud():
             if " static " in f" {method}" and "(" not in method and method != "static {};" and " final " not in method:
                 yield f"{owner}: {method}"
         elif LEFT_OUT.search(line.split("//")[0]):
+            yield f"{owner}: {method} {line.strip()}"
+        elif " new " in line and owner.split()[-1].replace(".", "/") == "preinit/" + line.split("// class ")[-1].strip():
             yield f"{owner}: {method} {line.strip()}"
         elif " putstatic " in line and method != "static {};":
             yield f"{owner}: {method} {line.strip()}"

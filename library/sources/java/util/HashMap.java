@@ -160,10 +160,6 @@ public class HashMap<K, V> extends AbstractMap<K, V> implements Cloneable, java.
     void inserted(Node<K, V> node) {
     }
 
-    /** A node was read or its value set. */
-    void used(Node<K, V> node) {
-    }
-
     /** A node was taken out. */
     void removed(Node<K, V> node) {
     }
@@ -194,11 +190,7 @@ public class HashMap<K, V> extends AbstractMap<K, V> implements Cloneable, java.
 
     public V get(Object key) {
         Node<K, V> node = find(key);
-        if (node == null) {
-            return null;
-        }
-        used(node);
-        return node.value;
+        return node == null ? null : node.value;
     }
 
     public boolean containsKey(Object key) {
@@ -233,7 +225,6 @@ public class HashMap<K, V> extends AbstractMap<K, V> implements Cloneable, java.
                 if (!absent || old == null) {
                     node.value = value;
                 }
-                used(node);
                 return old;
             }
             last = node;
@@ -319,11 +310,7 @@ public class HashMap<K, V> extends AbstractMap<K, V> implements Cloneable, java.
 
     public V getOrDefault(Object key, V absent) {
         Node<K, V> node = find(key);
-        if (node == null) {
-            return absent;
-        }
-        used(node);
-        return node.value;
+        return node == null ? absent : node.value;
     }
 
     public V putIfAbsent(K key, V value) {
@@ -345,7 +332,6 @@ public class HashMap<K, V> extends AbstractMap<K, V> implements Cloneable, java.
             return false;
         }
         node.value = value;
-        used(node);
         return true;
     }
 
@@ -356,7 +342,6 @@ public class HashMap<K, V> extends AbstractMap<K, V> implements Cloneable, java.
         }
         V old = node.value;
         node.value = value;
-        used(node);
         return old;
     }
 
@@ -378,7 +363,6 @@ public class HashMap<K, V> extends AbstractMap<K, V> implements Cloneable, java.
     private V computed(Node<K, V> node, K key, V value) {
         if (node != null && value != null) {
             node.value = value;
-            used(node);
         } else if (node != null) {
             unlink(key);
         } else if (value != null) {
@@ -408,7 +392,6 @@ public class HashMap<K, V> extends AbstractMap<K, V> implements Cloneable, java.
         preinit.java.lang.Throwable.checkNotNull(function);
         Node<K, V> node = findToCompute(key);
         if (node != null && node.value != null) {
-            used(node);
             return node.value;
         }
         int seen = changes;
