@@ -46,9 +46,10 @@ def main():
             if told.image and got == expected:
                 _, errors = run([told.program, "build", "--out", f"{room}/image", "--report", f"{room}/report", *files])
                 got, errors = run([told.program, "run", "--entries", name, f"{room}/image"])
-                own = [line.strip() for line in open(f"{room}/report", encoding="utf-8")
-                       if not line.startswith(("java/", "preinit/")) and " run " in line]
-                end = f"as the JVM, {os.path.getsize(f'{room}/image')} bytes; at run time: {', '.join(own) or 'none'}" \
+                with open(f"{room}/report", encoding="utf-8") as it:
+                    late = [line.strip() for line in it
+                            if not line.startswith(("java/", "preinit/")) and " run " in line]
+                end = f"as the JVM, {os.path.getsize(f'{room}/image')} bytes; at run time: {', '.join(late) or 'none'}" \
                     if got == expected else f"from an image: {'; '.join(errors)[:200]}"
             same += end.startswith("as the JVM")
             print(f"{name} ({len(files) - len(own)} classes): {end}", flush=True)
