@@ -22,7 +22,7 @@ REFUSED = {GROWTHS: "REFUSED_GROWTH", STARTS: "REFUSED_START"}
 # This call answers a word of its own where a thread is not started, which takes memory, too.
 SPAWNING = "run_threads"
 # The words that end so start threads, and no others do.
-STARTING = ("run_threads_at_a_gate", "run_threads_into_sinks_that_fail")
+STARTING = ("settle_all", "build_program", "run_threads", "run_threads_at_a_gate", "run_threads_into_sinks_that_fail")
 # A reader may hold so many bytes for each byte of its input, and so many beyond.
 BYTES_A_BYTE, BYTES = 40, 1 << 20
 LONGEST = re.compile(r"at most (\d+) bytes")

@@ -74,6 +74,12 @@ impl Answer {
         }
     }
 
+    /// Adds a text between brackets, after a space.
+    pub fn bracketed(&mut self, text: &str) {
+        let written = write!(self.text, " [{text}]");
+        self.note(written);
+    }
+
     /// Adds what is shown of a value, between parentheses.
     pub fn parenthesized<T: Display>(&mut self, value: &T) {
         let written = write!(self.text, "({value})");
@@ -90,6 +96,14 @@ impl Answer {
     pub fn pair<T: Debug, U: Debug>(&mut self, first: &T, second: &U) {
         let written = write!(self.text, "({first:?}, {second:?})");
         self.note(written);
+    }
+
+    /// Adds two hexadecimal digits a byte.
+    pub fn hexadecimal(&mut self, bytes: &[u8]) {
+        for byte in bytes {
+            let written = write!(self.text, "{byte:02X}");
+            self.note(written);
+        }
     }
 
     pub fn show<T: Display>(&mut self, value: &T) {

@@ -7,8 +7,8 @@ use std::str::SplitWhitespace;
 /// Given are lines: `vertices COUNT`, then `edge FROM TO`, `chain`, which has each vertex lead to the next, and
 /// `diamonds COUNT`, each of three vertices that lead to the next one's first.
 ///
-/// Asked is `arrange`, for the order or the least vertex on a cycle; `arrange ends`, for how many vertices the
-/// order has, the first and the last; or `reach VERTEX` and `reach VERTEX cleared`, for what is reached.
+/// Asked is `arrange`, for the order or the least vertex on a cycle; `arrange all`, for whether the order has all
+/// vertices, each after its successors; or `reach VERTEX` and `reach VERTEX cleared`, for what is reached.
 pub fn ask(answer: &mut Answer, given: &str, asked: &str) {
     let (first, lines) = given.split_once('\n').unwrap_or((given, ""));
     let (_, count) = first.split_once(' ').unwrap_or(("", ""));
@@ -67,9 +67,9 @@ fn of_graph(answer: &mut Answer, graph: &Graph, asked: &str) {
     }
 }
 
-fn add_arrangement(answer: &mut Answer, graph: &Graph, are_ends: bool) {
+fn add_arrangement(answer: &mut Answer, graph: &Graph, is_large: bool) {
     match arrange(answer.alloc, graph) {
-        Ok(Arrangement::Order(order)) if are_ends => add_ends(answer, &order),
+        Ok(Arrangement::Order(order)) if is_large => check_order(answer, graph, &order),
         Ok(Arrangement::Order(order)) => {
             answer.word("order");
             add_vertices(answer, &order)
@@ -89,15 +89,54 @@ fn add_vertices(answer: &mut Answer, vertices: &[usize]) {
     }
 }
 
-/// How many vertices an order has, the first and the last. That each stands after its successors is proved.
-fn add_ends(answer: &mut Answer, order: &[usize]) {
-    answer.show(&order.len());
-    for end in [order.first(), order.last()] {
-        if let Some(vertex) = end {
-            answer.word(" ");
-            answer.show(vertex)
+/// How many vertices an order has, each once and after its successors; or what is wrong with it.
+fn check_order(answer: &mut Answer, graph: &Graph, order: &[usize]) {
+    let Ok(mut are_before) = vec![in answer.alloc; false; graph.len()] else {
+        return answer.refuse();
+    };
+    match first_out_of_order(graph, order, &mut are_before) {
+        Some(vertex) => {
+            answer.show(&vertex);
+            answer.word(" before a successor")
+        }
+        None => {
+            answer.show(&count_of(&are_before));
+            answer.word(" of ");
+            answer.show(&order.len());
+            answer.word(" in order")
         }
     }
+}
+
+fn count_of(marks: &[bool]) -> u64 {
+    let mut count = 0u64;
+    for mark in marks {
+        count = count.saturating_add(u64::from(*mark));
+    }
+    count
+}
+
+/// The first vertex that is not after all its successors. Those before it are marked.
+fn first_out_of_order(graph: &Graph, order: &[usize], are_before: &mut [bool]) -> Option<usize> {
+    for vertex in order {
+        if !is_after_successors(graph, *vertex, are_before) {
+            return Some(*vertex);
+        }
+        if let Some(mark) = are_before.get_mut(*vertex) {
+            *mark = true;
+        }
+    }
+    None
+}
+
+/// Whether all successors of a vertex are among those before it.
+fn is_after_successors(graph: &Graph, vertex: usize, are_before: &[bool]) -> bool {
+    for successor in graph.successors(vertex) {
+        if !are_before.get(*successor).copied().unwrap_or(false) {
+            return false;
+        }
+    }
+    true
 }
 
 fn add_reached(answer: &mut Answer, graph: &Graph, words: &str) {

@@ -3,18 +3,20 @@
 use crate::answer::Answer;
 use crate::hex::bytes_of;
 use crate::image_sinks::failing;
-use image_reader::read;
+use image_reader::{read, world};
 
 /// Given is an image. Asked are `cuts` and `changes`: what reading its first bytes answers, by their number, and
 /// reading it with all bits of one byte changed, by its offset; a number is told where the answer is another than that
 /// of the number before. `failing` is how many writes of it into sinks that fail after fewer bytes, and into ones that
-/// answer 0, tell how many went out, of how many each.
+/// answer 0, tell how many went out, of how many each. `start` is whether a run may start from it without entries,
+/// which no command can ask.
 pub fn ask(answer: &mut Answer, given: &str, asked: &str) {
     let bytes = bytes_of(answer, given);
     match asked {
         "cuts" => add_cuts(answer, &bytes),
         "changes" => add_changes(answer, bytes),
         "failing" => answer.made(failing(answer.alloc, &bytes)),
+        "start" => start(answer, &bytes),
         _ => answer.word("no question"),
     }
 }
@@ -63,5 +65,16 @@ fn add_changes(answer: &mut Answer, mut bytes: Vec<u8>) {
 fn turn(bytes: &mut [u8], offset: usize) {
     if let Some(byte) = bytes.get_mut(offset) {
         *byte ^= 0xFF;
+    }
+}
+
+/// Whether a run may start without entries.
+fn start(answer: &mut Answer, bytes: &[u8]) {
+    match read(answer.alloc, bytes) {
+        Ok(image) => match world(answer.alloc, &image, &[]) {
+            Ok(_) => answer.word("started"),
+            Err(fault) => answer.show(&fault),
+        },
+        Err(fault) => answer.debug(&fault),
     }
 }

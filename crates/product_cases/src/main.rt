@@ -11,6 +11,7 @@
 mod about;
 mod answer;
 mod cases;
+mod class_files;
 mod codes;
 mod graphs;
 mod hex;
@@ -23,6 +24,7 @@ mod streams;
 mod tables;
 mod threads;
 mod uses;
+mod words;
 
 use about::About;
 use cases::run_cases;

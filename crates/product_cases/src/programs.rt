@@ -4,6 +4,7 @@ use crate::answer::Answer;
 use crate::hex::{bytes_of, classes_of, files_of};
 use crate::{members, tables, uses};
 use classfile::ClassFile;
+use init_engine::World;
 use initializer_analysis::forced::Forced;
 use initializer_analysis::judge;
 use initializer_analysis::verdict::Verdict;
@@ -43,7 +44,7 @@ impl<'a> Question<'a> {
 ///   an entry of the pool of that class stands for; `select CLASS REFERENCE`, which method a call of that method runs
 ///   on an object of the class; `special CLASS REFERENCE`, which one invokespecial of it runs in the class;
 /// - `runs CLASS` and `uses CLASS` (`src/uses.rt`); `wave CLASS`, its wave by the code of initializers alone, none of
-///   which runs.
+///   which runs; `start`, whether a run may start without entries.
 pub fn ask(answer: &mut Answer, given: &str, asked: &str) {
     let question = Question::of(asked);
     let mut files = files_of(answer, given);
@@ -96,6 +97,7 @@ fn of_program(answer: &mut Answer, program: &Program, question: Question<'_>) {
         "select" => members::add_selected(answer, program, class, index),
         "special" => members::add_special(answer, program, class, index),
         "wave" => add_wave(answer, program, class),
+        "start" => start(answer, program),
         _ => of_tables(answer, program, question),
     }
 }
@@ -110,6 +112,14 @@ fn of_tables(answer: &mut Answer, program: &Program, question: Question<'_>) {
         "statics" => tables::add_statics(answer, program, class),
         "runs" | "uses" => uses::ask(answer, program, question.word, class),
         _ => answer.word("no question"),
+    }
+}
+
+/// Whether a run may start without entries, which no command can ask.
+fn start(answer: &mut Answer, program: &Program) {
+    match World::lazy(answer.alloc, program, &[]) {
+        Ok(_) => answer.word("started"),
+        Err(fault) => answer.show(&fault),
     }
 }
 

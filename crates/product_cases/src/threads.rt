@@ -9,7 +9,7 @@ mod gates;
 mod meeting;
 mod plan;
 mod runs;
-pub mod settling;
+mod settling;
 mod shown;
 mod starts;
 mod worker_gates;

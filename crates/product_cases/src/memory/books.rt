@@ -22,8 +22,16 @@ const MANY: u32 = 10_000;
 /// What the thread prints.
 const PRINTED: &[u8] = b"7\n7\n7\n";
 
-/// Commits of one thread of `Work`.
-pub fn commit_work<W: Write>(page: &mut Page<'_, W>, program: &Program) {
+/// Makes a call twice over the same things lent.
+pub fn call<W: Write>(page: &mut Page<'_, W>, name: &str, program: &Program) {
+    if name != "commit" {
+        return page.give_up();
+    }
+    commit_work(page, program);
+    commit_work(page, program);
+}
+
+fn commit_work<W: Write>(page: &mut Page<'_, W>, program: &Program) {
     let Some(world) = start_of(page.alloc, program, "Work") else {
         return page.give_up();
     };

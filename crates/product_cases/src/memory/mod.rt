@@ -1,18 +1,20 @@
-//! Calls that no command makes, or that leave something as it was where they are refused memory, each made twice over
-//! the same things lent, of the classes of `memory/classes.txt`; and inputs that are fed to readers. The bytes of the
-//! classes, and of images, stand in `assembled/memory`.
+//! Calls that take memory, each made twice over the same things lent, of the classes of `memory/classes.txt`; and
+//! inputs that are fed to readers. The bytes of the classes, and of images, stand in `assembled/memory`.
 //!
 //! A line has the name of a call and what it answered. `MEMORY.md` says what `./test` makes of them.
 
 mod books;
 mod feeding;
+mod files;
+mod images;
 mod inputs;
-mod kept;
+mod lists;
 mod page;
 mod programs;
 mod readers;
 mod runs;
 mod threads;
+mod verdicts;
 
 use crate::answer::Answer;
 use crate::hex::files_of;
@@ -25,8 +27,9 @@ use std::sync::Wait;
 use std::thread::Threads;
 use std::{fs, rt};
 
-/// Makes the call of a name, or feeds inputs. Answers whether all went well.
-pub fn call<R, W>(rt: &R, out: &mut W, name: &str) -> io::Result<bool>
+/// Makes a call: the word has its group, which is the file that it stands in, and its name. Answers whether all went
+/// well.
+pub fn call<R, W>(rt: &R, out: &mut W, word: &str) -> io::Result<bool>
 where
     R: rt::Files + AllocGlobal + Threads + Wait + Sync,
     W: Write,
@@ -38,45 +41,47 @@ where
     let files = files_of(&mut notes, &files);
     let images = files_of(&mut notes, &images);
     match notes.finish() {
-        Ok(_) => of_files(rt, &mut page, name, &files, &images),
+        Ok(_) => of_files(rt, &mut page, word, &files, &images),
         Err(_) => page.give_up(),
     }
     Ok(page.is_well())
 }
 
-/// Makes a call on the program of files, and on images.
+/// Makes a call on files, or on the program that they make.
 fn of_files<R: Threads + Wait + Sync, W: Write>(
     rt: &R,
     page: &mut Page<'_, W>,
-    name: &str,
+    word: &str,
     files: &[Vec<u8>],
     images: &[Vec<u8>],
 ) {
-    let Some(program) = linked(page.alloc, files) else {
-        return page.give_up();
-    };
-    if let Some(inputs) = name.strip_prefix("feed ") {
-        return feed(page, inputs, &program, files, images);
+    match word.split_once(' ') {
+        Some(("files", name)) => files::call(page, name, files),
+        Some(("images", name)) => images::call(rt, page, name, files, images),
+        Some((group, name)) => match linked(page.alloc, files) {
+            Some(program) => of_program(rt, page, group, name, &program, files, images),
+            None => page.give_up(),
+        },
+        None => page.give_up(),
     }
-    make(rt, page, name, &program, images);
-    make(rt, page, name, &program, images);
 }
 
-fn make<R: Threads + Wait + Sync, W: Write>(
+fn of_program<R: Threads + Wait + Sync, W: Write>(
     rt: &R,
     page: &mut Page<'_, W>,
+    group: &str,
     name: &str,
     program: &Program,
+    files: &[Vec<u8>],
     images: &[Vec<u8>],
 ) {
-    match name {
-        "Regions::put" => kept::put_region(page, program),
-        "reachable" => kept::reach(page, images),
-        "step" => runs::step_main(page, program),
-        "effect" => runs::effect_plain(page, program),
-        "commit" => books::commit_work(page, program),
-        "run_threads_at_a_gate" => threads::run_at_a_gate(rt, page, program),
-        "run_threads_into_sinks_that_fail" => threads::run_into_all(rt, page, program),
+    match group {
+        "verdicts" => verdicts::call(rt, page, name, program),
+        "lists" => lists::call(page, name, program),
+        "runs" => runs::call(page, name, program),
+        "books" => books::call(page, name, program),
+        "threads" => threads::call(rt, page, name, program),
+        "feed" => feed(page, name, program, files, images),
         _ => page.give_up(),
     }
 }

@@ -1,7 +1,7 @@
 //! The page on which calls and their answers are written.
 
 use init_engine::{Ending, Output, World};
-use std::alloc::Global;
+use std::alloc::{AllocError, Global};
 use std::fmt::Display;
 use std::io::{self, Write};
 
@@ -46,6 +46,14 @@ impl<'a, W: Write> Page<'a, W> {
     pub fn value(&mut self, number: usize) {
         let written = writeln!(self.out, "Ok {number}");
         self.note(written);
+    }
+
+    /// Ends the line of a call that answered a number, or was refused memory.
+    pub fn number(&mut self, answer: Result<usize, AllocError>) {
+        match answer {
+            Ok(number) => self.value(number),
+            Err(_) => self.memory(),
+        }
     }
 
     /// Ends the line of a call that was refused memory.

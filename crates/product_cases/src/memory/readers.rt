@@ -1,8 +1,8 @@
 //! What readers answer to inputs: a value, or a fault of a name.
 
+use super::files::instructions_in;
 use super::programs::start_of;
 use crate::answer::Answer;
-use bytecode::decode;
 use classfile::ClassFile;
 use cli::entries_of;
 use init_engine::World;
@@ -60,15 +60,8 @@ fn of_class_file(answer: &mut Answer, bytes: &[u8]) {
 }
 
 fn of_class(answer: &mut Answer, class: ClassFile) {
-    for method in class.methods().iter() {
-        if let Some(code) = method.code()
-            && decode(answer.alloc, code).is_err()
-        {
-            answer.refuse();
-        }
-    }
     let mut classes = Vec::new(answer.alloc);
-    if classes.push(class).is_err() {
+    if classes.push(class).is_err() || instructions_in(answer.alloc, &classes).is_err() {
         return answer.refuse();
     }
     match link(answer.alloc, classes) {

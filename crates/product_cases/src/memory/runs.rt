@@ -2,8 +2,10 @@
 
 use super::page::Page;
 use super::programs::start_of;
+use classfile::ClassName;
+use cli::entries_of;
 use init_engine::starting::lazy_shared;
-use init_engine::{Output, Turn, World};
+use init_engine::{Output, Turn, World, turns};
 use machine::{Effect, Frames, Shared, effect};
 use program::Program;
 use std::alloc::{AllocError, Global};
@@ -14,9 +16,36 @@ use vm_state::heap::Pool;
 /// No run here takes as many steps.
 const MANY: u64 = 10_000;
 
+/// Makes a call twice over the same things lent.
+pub fn call<W: Write>(page: &mut Page<'_, W>, name: &str, program: &Program) {
+    let Ok(entries) = entries_of(page.alloc, "Main,Work,Main") else {
+        return page.give_up();
+    };
+    make(page, name, program, &entries);
+    make(page, name, program, &entries);
+}
+
+fn make<W: Write>(page: &mut Page<'_, W>, name: &str, program: &Program, entries: &[ClassName]) {
+    match name {
+        "World::lazy" => start_at(page, program, entries),
+        "step" => step_main(page, program),
+        "effect" => effect_plain(page, program),
+        "turns" | "seen" => turn_main(page, name, program),
+        _ => page.give_up(),
+    }
+}
+
+fn start_at<W: Write>(page: &mut Page<'_, W>, program: &Program, entries: &[ClassName]) {
+    page.ask("World::lazy");
+    match World::lazy(page.alloc, program, entries) {
+        Ok(world) => page.value(world.thread_count() as usize),
+        Err(fault) => page.line(&fault),
+    }
+}
+
 /// Steps of a thread. Where memory is refused, the world and how many steps it has taken are as before that one: those
 /// that are left lead to the same.
-pub fn step_main<W: Write>(page: &mut Page<'_, W>, program: &Program) {
+fn step_main<W: Write>(page: &mut Page<'_, W>, program: &Program) {
     match start_of(page.alloc, program, "Main") {
         Some(mut world) => step_from(page, program, &mut world),
         None => page.give_up(),
@@ -54,6 +83,29 @@ fn step_on(
         }
     }
     Ok(())
+}
+
+/// The turns of two threads, or what is seen after them.
+fn turn_main<W: Write>(page: &mut Page<'_, W>, name: &str, program: &Program) {
+    let Some(world) = start_of(page.alloc, program, "Main,Work") else {
+        return page.give_up();
+    };
+    if name == "turns" {
+        page.ask("turns");
+    }
+    match turns(page.alloc, program, world, MANY) {
+        Ok((_, schedule)) if name == "turns" => page.value(schedule.len()),
+        Ok((world, _)) => see_world(page, world),
+        Err(_) => page.memory(),
+    }
+}
+
+fn see_world<W: Write>(page: &mut Page<'_, W>, world: World) {
+    page.ask("seen");
+    match world.into_seen(page.alloc) {
+        Ok(seen) => page.value(seen.printed.count()),
+        Err(_) => page.memory(),
+    }
 }
 
 /// What threads share where each class is initialized, and its static fields are as they begin.
@@ -96,7 +148,7 @@ fn frames_from(alloc: Global, program: &Program, world: &mut World) -> Option<Fr
 }
 
 /// Instructions of a thread. Where memory is refused, all is as before that one: those that are left print the same.
-pub fn effect_plain<W: Write>(page: &mut Page<'_, W>, program: &Program) {
+fn effect_plain<W: Write>(page: &mut Page<'_, W>, program: &Program) {
     match frames_at_main(page.alloc, program) {
         Some(mut frames) => effect_from(page, program, &mut frames),
         None => page.give_up(),

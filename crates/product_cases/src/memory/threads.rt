@@ -1,17 +1,22 @@
-//! Calls that run threads of the system at a gate, and into sinks that fail.
+//! Calls that run threads of the system, and calls on journals.
 
 use super::page::Page;
 use super::programs::start_of;
 use crate::streams::OneByOne;
+use journal::{Journal, JournalFault};
 use program::Program;
 use sinks::Out;
 use std::io::Write;
 use std::sync::Wait;
 use std::thread::Threads;
+use thread_runner::replay::{ReplayFault, replay};
 use thread_runner::{Ended, Gate, Open, RunFault, run_threads};
 
 /// What three threads of `Work` print: all the same.
 const PRINTED: &[u8] = b"7\n7\n7\n7\n7\n7\n7\n";
+
+/// A journal of two threads of `Work`.
+const JOURNAL: &[u8] = b"0 20\n1 1\n0 4\n1 7\n";
 
 /// No run here takes as many steps.
 const MANY: u64 = 100_000;
@@ -28,13 +33,36 @@ impl Gate for Asked {
     fn done(&self, _who: u32, _job: u64) {}
 }
 
-/// Runs three threads at a gate that is asked.
-pub fn run_at_a_gate<R: Threads + Wait + Sync, W: Write>(
+/// Makes a call twice over the same things lent.
+pub fn call<R: Threads + Wait + Sync, W: Write>(
     rt: &R,
     page: &mut Page<'_, W>,
+    name: &str,
     program: &Program,
 ) {
-    run_work(rt, page, program, &Asked, PRINTED.len())
+    let Ok(journal) = Journal::parse(page.alloc, JOURNAL) else {
+        return page.give_up();
+    };
+    make(rt, page, name, program, &journal);
+    make(rt, page, name, program, &journal);
+}
+
+fn make<R: Threads + Wait + Sync, W: Write>(
+    rt: &R,
+    page: &mut Page<'_, W>,
+    name: &str,
+    program: &Program,
+    journal: &Journal,
+) {
+    match name {
+        "run_threads" => run_work(rt, page, program, &Open, PRINTED.len()),
+        "run_threads_at_a_gate" => run_work(rt, page, program, &Asked, PRINTED.len()),
+        "run_threads_into_sinks_that_fail" => run_into_all(rt, page, program),
+        "replay" => replay_journal(page, program, journal),
+        "Journal::parse" => parse_text(page),
+        "Journal::text" => write_text(page, journal),
+        _ => page.give_up(),
+    }
 }
 
 /// Runs three threads into a sink that takes so many bytes, and fails then.
@@ -55,7 +83,7 @@ fn run_work<R: Threads + Wait + Sync, G: Gate, W: Write>(
 }
 
 /// Runs into sinks that fail after so many bytes, for each number below that of all.
-pub fn run_into_all<R: Threads + Wait + Sync, W: Write>(
+fn run_into_all<R: Threads + Wait + Sync, W: Write>(
     rt: &R,
     page: &mut Page<'_, W>,
     program: &Program,
@@ -89,4 +117,34 @@ fn steps_in(runs: &[(u32, u64)]) -> u64 {
         sum = sum.saturating_add(run.1);
     }
     sum
+}
+
+fn replay_journal<W: Write>(page: &mut Page<'_, W>, program: &Program, journal: &Journal) {
+    let Some(start) = start_of(page.alloc, program, "Work,Work") else {
+        return page.give_up();
+    };
+    page.ask("replay");
+    match replay(page.alloc, program, start, journal) {
+        Ok(seen) => page.value(seen.printed.count()),
+        Err(ReplayFault::Memory) => page.memory(),
+        Err(_) => page.line(&"another fault"),
+    }
+}
+
+fn parse_text<W: Write>(page: &mut Page<'_, W>) {
+    page.ask("Journal::parse");
+    match Journal::parse(page.alloc, JOURNAL) {
+        Ok(journal) => page.value(journal.runs().len()),
+        Err(JournalFault::Memory) => page.memory(),
+        Err(_) => page.line(&"another fault"),
+    }
+}
+
+fn write_text<W: Write>(page: &mut Page<'_, W>, journal: &Journal) {
+    page.ask("Journal::text");
+    match journal.text(page.alloc) {
+        Ok(text) if text.as_slice() == JOURNAL => page.value(text.len()),
+        Ok(_) => page.line(&"another text"),
+        Err(_) => page.memory(),
+    }
 }

@@ -18,7 +18,7 @@ use wave_scheduler::outcome::{Settled, WaveFault};
 use wave_scheduler::{settle_all, settle_all_here};
 
 /// Within this budget each initializer of the cases ends.
-pub const BUDGET: u64 = 1_000;
+const BUDGET: u64 = 1_000;
 
 /// Asked is `here`, for the caller alone, or a number of workers, whose gate is asked. After it may stand `meet`, for a
 /// gate in which they meet, or `refuse`, for one that refuses memory to each, and then the gate's counts are told.
@@ -47,7 +47,7 @@ fn rule_of(word: &str) -> WorkerRule {
 }
 
 /// The verdicts on a program, nothing being forced.
-pub fn verdicts_of(alloc: Global, program: &Program) -> Result<Verdicts, AllocError>
+fn verdicts_of(alloc: Global, program: &Program) -> Result<Verdicts, AllocError>
     ensures { IfOk result (λ verdicts. AreJudged program.now verdicts) }
 {
     judge(alloc, program, &Forced::none(alloc))
