@@ -14,7 +14,7 @@ use Rattle.journal.specs.Journals as journals
 use Rattle.journal.specs.declared.fault.JournalFault.{JournalFault}
 use Rattle.journal.specs.declared.fault.JournalFault.TheVariants as journal_faults
 use Rattle.image_reader.specs.Starts.{IsImageStart}
-use Rattle.image_runner.specs.Replays.{ImageReplayFails}
+use Rattle.image_runner.specs.Replays.{ImageReplayFails, IsImageReplay}
 use Rattle.image_runner.specs.Replays as replays
 use Rattle.image_runner.specs.declared.fault.ReplayFault.{ReplayFault}
 use Rattle.image_runner.specs.declared.fault.ReplayFault.TheVariants as replay_faults
@@ -27,6 +27,7 @@ use Rattle.cli.specs.declared.status.Status.{Status}
 use Rattle.cli.specs.Done.{HasReplayed}
 use Rattle.cli.specs.Entries.{entry_names}
 use Rattle.cli.specs.Files.{AreBytesOf, Contents}
+use Rattle.cli.specs.ImageBuilds.{IsReadAsBuilt}
 use Rattle.cli.specs.ImageReplays.{IsNoReplay, IsReplayed, IsReplayOf, image, journal, entry, turn}
 use Rattle.cli.specs.ImageRuns.{IsSomeTextOf}
 use Rattle.cli.specs.Running.{IsOfRun}
@@ -65,6 +66,19 @@ module _ (bytes : List ℕ) (names : List (List ℕ)) (text : List ℕ) where
 
 -- ---- what is replayed
 
+pub replayed_text : (bytes : List ℕ) (names : List (List ℕ)) (text : List ℕ) (I : ImageTables)
+    (result : Result ImageReplay CommandFault) → IsSomeTextOf bytes I → IsReadAsBuilt bytes I → IsProgram I.program
+    → IfOk result (λ r. r.image ≡ I) → IfOk result (λ r. IsJournalOf text r.journal)
+    → IfOk result (λ r. IsImageReplay I names r.journal r.seen) → IfOk result (IsReplayed bytes names text)
+replayed_text bytes names text I (Ok r) of built program image journal shown = record {
+  image = subst (IsSomeTextOf bytes) (sym image) of;
+  built = subst (IsReadAsBuilt bytes) (sym image) built;
+  program = subst (λ (J : ImageTables). IsProgram J.program) (sym image) program;
+  journal = journal;
+  shown = subst (λ (J : ImageTables). IsImageReplay J names r.journal r.seen) (sym image) shown;
+}
+replayed_text bytes names text I (Err _) of built program image journal shown = tt
+
 -- a replay of what files hold, where what it is made of is theirs
 pub replay_of : (holds : Contents) (words : Replay) (bytes text : List ℕ) (names : List (List ℕ))
     (result : Result ImageReplay CommandFault) → AreBytesOf (holds words.image.now) bytes
@@ -76,6 +90,7 @@ replay_of holds words bytes text names (Ok r) held told are is = record {
     bytes = bytes;
     held = held;
     text = is.image;
+    built = is.built;
     program = is.program;
     start = subst (λ (ns : List (List ℕ)). IsImageStart r.image ns is.shown.first) are is.shown.start;
   };

@@ -18,12 +18,14 @@ use Rattle.cli.specs.declared.fault.CommandFault.TheVariants.{Image, Text, Entry
 use Rattle.cli.specs.declared.image_replay.ImageReplay.{ImageReplay}
 use Rattle.cli.specs.Begins.{IsBegunFromImage}
 use Rattle.cli.specs.Files.{AreBytesOf, Contents}
+use Rattle.cli.specs.ImageBuilds.{IsReadAsBuilt}
 use Rattle.cli.specs.ImageRuns.{IsSomeTextOf}
 
 -- The image of these bytes, run from the entries of these names by the journal of this text, leads to where this is
 -- seen.
 pub record IsReplayed (bytes : List ℕ) (names : List (List ℕ)) (text : List ℕ) (replay : ImageReplay) : Type 0 where
   pub image : IsSomeTextOf bytes replay.image
+  pub built : IsReadAsBuilt bytes replay.image
   pub program : IsProgram replay.image.program
   pub journal : IsJournalOf text replay.journal
   pub shown : IsImageReplay replay.image names replay.journal replay.seen

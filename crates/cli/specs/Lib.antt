@@ -24,3 +24,4 @@ pub mod Audits
 pub mod Explanations
 pub mod Inspections
 pub mod Lists
+pub mod Left

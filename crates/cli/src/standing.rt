@@ -1,6 +1,7 @@
 //! Where the threads of a run stand that have not returned, on standard error: read from another run over its schedule.
-ghost use Rattle.std.specs.Prelude.{◌≡◌, ◌≢◌};
+ghost use Rattle.std.specs.Prelude.{◌≡◌, ◌≢◌, ◌⊎◌, IfErr, IsTrue};
 ghost use Rattle.init_engine.specs.Schedules.{AreRuns};
+ghost use Rattle.cli.specs.CommandFault.{refusal_status};
 ghost use Rattle.cli.specs.Status.{IsOver};
 
 use crate::meanings::Errors;
@@ -15,7 +16,9 @@ use std::alloc::Global;
 use thread_runner::replay::ReplayFault;
 
 /// Whether a run that ends a command so has threads that have not returned.
-fn some_stand(status: Status) -> bool {
+fn some_stand(status: Status) -> bool
+    ensures { IsTrue result → IsOver status }
+{
     matches!(status, Status::Stuck | Status::Limit | Status::Ended)
 }
 
@@ -52,7 +55,7 @@ pub(crate) fn tell_image_stacks<E: Errors>(
     requires runs { AreRuns runs.now }
     requires status { status ≢ Status.Words }
     ensures words { result ≢ Status.Words }
-    ensures done { IsOver result → result ≡ status }
+    ensures told { (result ≡ status) ⊎ (IsOver status × (result ≡ Status.Refused)) }
 {
     if some_stand(status)
         && let Some(first) = again
@@ -90,9 +93,10 @@ fn tell_stacks<E: Errors>(
     status: Status,
     errors: &mut E,
 ) -> Status
-    requires { status ≢ Status.Words }
+    requires status { status ≢ Status.Words }
+    requires refusal { IfErr stacks (λ refusal. refusal_status refusal ≡ Status.Refused) }
     ensures words { result ≢ Status.Words }
-    ensures done { IsOver result → result ≡ status }
+    ensures told { (result ≡ status) ⊎ (result ≡ Status.Refused) }
 {
     match stacks {
         Ok(lines) => {
@@ -111,6 +115,7 @@ fn lazy_stacks(
     runs: &[(u32, u64)],
 ) -> Result<String, CommandFault>
     requires { AreRuns runs.now }
+    ensures { IfErr result (λ refusal. refusal_status refusal ≡ Status.Refused) }
 {
     let entries = entries_of(alloc, list)?;
     match World::lazy(alloc, program, entries.as_slice()) {
@@ -127,6 +132,7 @@ fn replay_stacks(
     runs: &[(u32, u64)],
 ) -> Result<String, CommandFault>
     requires { AreRuns runs.now }
+    ensures { IfErr result (λ refusal. refusal_status refusal ≡ Status.Refused) }
 {
     let entries = entries_of(alloc, list)?;
     match world(alloc, image, entries.as_slice()) {
@@ -143,6 +149,7 @@ fn stacks_from(
     runs: &[(u32, u64)],
 ) -> Result<String, CommandFault>
     requires { AreRuns runs.now }
+    ensures { IfErr result (λ refusal. refusal_status refusal ≡ Status.Refused) }
 {
     match stacks(alloc, program, first, runs) {
         Ok(stacks) => Ok(stack_lines(alloc, program, &stacks)?),

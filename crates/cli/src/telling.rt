@@ -1,10 +1,12 @@
 //! What a command tells on standard output and standard error.
-ghost use Rattle.std.specs.Prelude.{◌≡◌, ◌≢◌, ◌⊎◌, IsOk, IsOkAnd};
+ghost use Rattle.std.specs.Prelude.{◌≡◌, ◌≢◌, ◌⊎◌, ℕ, List, IsOk, IsOkAnd};
 ghost use Rattle.std.specs.Io.KnownBytes.{Appends};
 ghost use Rattle.vm_state.specs.Output.{text_of};
-ghost use Rattle.cli.specs.Done.{HasHelped};
+ghost use Rattle.command_line.specs.Requests.{IsFaultOf};
+ghost use Rattle.cli.specs.Done.{HasHelped, IsNoRequest};
 ghost use Rattle.cli.specs.CommandFault.{refusal_status};
 ghost use Rattle.cli.specs.Status.{IsOver, audit_status, replay_status};
+ghost use Rattle.cli.specs.steps.Left.{status_of_done};
 
 use crate::auditing::Audited;
 use crate::meanings::Errors;
@@ -95,6 +97,7 @@ pub(crate) fn tell_endings<E: Errors>(
 
 /// Tells why a command that has nothing else to tell was refused, if it was.
 pub(crate) fn tell_done<E: Errors>(done: Result<(), CommandFault>, errors: &mut E) -> Status
+    ensures status { result ≡ status_of_done done }
     ensures words { result ≢ Status.Words }
     ensures done { IsOver result → (result ≡ Status.Done) × IsOk done }
 {
@@ -111,6 +114,7 @@ pub(crate) fn tell_built<E: Errors, H: Watch>(
     watch: &H,
     errors: &mut E,
 ) -> Status
+    ensures status { result ≡ status_of_done built }
     ensures words { result ≢ Status.Words }
     ensures done { IsOver result → (result ≡ Status.Done) × IsOk built }
 {
@@ -207,6 +211,7 @@ fn refuse_build<E: Errors, H: Watch>(
 
 /// Tells what the words gave in place of a command: help on standard output, and what is wrong with
 /// them on standard error.
+#[tactic(auto, using(crate::proofs::DoneLemmas::help_asked))]
 pub(crate) fn tell_words<W: Write, E: Errors>(
     fault: &WordsFault,
     out: &mut W,
@@ -214,6 +219,7 @@ pub(crate) fn tell_words<W: Write, E: Errors>(
 ) -> Status
     ensures refused { result ≡ Status.Refused → out.new ≡ out.old }
     ensures words { result ≡ Status.Words → out.new ≡ out.old }
+    ensures asked { (words : List (List ℕ)) → IsFaultOf words fault.now → IsNoRequest words result }
     ensures done { IsOver result → HasHelped (W.contents out.old) (W.contents out.new) result }
 {
     match fault {
