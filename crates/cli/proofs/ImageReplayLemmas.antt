@@ -70,14 +70,14 @@ pub replayed_text : (bytes : List ℕ) (names : List (List ℕ)) (text : List �
     (result : Result ImageReplay CommandFault) → IsSomeTextOf bytes I → IsReadAsBuilt bytes I → IsProgram I.program
     → IfOk result (λ r. r.image ≡ I) → IfOk result (λ r. IsJournalOf text r.journal)
     → IfOk result (λ r. IsImageReplay I names r.journal r.seen) → IfOk result (IsReplayed bytes names text)
-replayed_text bytes names text I (Ok r) of built program image journal shown = record {
-  image = subst (IsSomeTextOf bytes) (sym image) of;
-  built = subst (IsReadAsBuilt bytes) (sym image) built;
-  program = subst (λ (J : ImageTables). IsProgram J.program) (sym image) program;
+replayed_text bytes names text I (Ok r) of built program same journal shown = record {
+  image = subst (IsSomeTextOf bytes) (sym same) of;
+  built = subst (IsReadAsBuilt bytes) (sym same) built;
+  program = subst (λ (J : ImageTables). IsProgram J.program) (sym same) program;
   journal = journal;
-  shown = subst (λ (J : ImageTables). IsImageReplay J names r.journal r.seen) (sym image) shown;
+  shown = subst (λ (J : ImageTables). IsImageReplay J names r.journal r.seen) (sym same) shown;
 }
-replayed_text bytes names text I (Err _) of built program image journal shown = tt
+replayed_text bytes names text I (Err _) of built program same journal shown = tt
 
 -- a replay of what files hold, where what it is made of is theirs
 pub replay_of : (holds : Contents) (words : Replay) (bytes text : List ℕ) (names : List (List ℕ))

@@ -80,9 +80,9 @@ flush_failed limit P first before mid after ran is kept =
 
 -- ---- limits
 
-pub at_most : {P : Tables} {first : World} {most limit : ℕ} {answer : Result Over RunFault}
-    {before after : Option (List ℕ)} {failed failures : ℕ} → most ≡ limit_by_threads limit
+pub at_most : (P : Tables) (first : World) (most limit : ℕ) (answer : Result Over RunFault)
+    (before after : Option (List ℕ)) (failed failures : ℕ) → most ≡ limit_by_threads limit
     → IsAnswer P first most answer before after failed failures
     → IsAnswer P first (limit_by_threads limit) answer before after failed failures
-at_most {P} {first} {most} {limit} {answer} {before} {after} {failed} {failures} same is =
+at_most P first most limit answer before after failed failures same is =
     subst (λ (k : ℕ). IsAnswer P first k answer before after failed failures) same is

@@ -41,6 +41,7 @@ outputs_unchanged old new (requests.Audit words) same = same
 outputs_unchanged old new (requests.Build words) same =
     λ other beside also. ap (λ (holds : Contents). holds other) same
 outputs_unchanged old new (requests.Explain words) same = same
+outputs_unchanged old new (requests.Inspect words) same = same
 outputs_unchanged old new (requests.Lazy words) same = same
 outputs_unchanged old new (requests.Renew words) same = λ other beside. ap (λ (holds : Contents). holds other) same
 outputs_unchanged old new (requests.Replay words) same = same

@@ -10,7 +10,7 @@ returns g c =
     let first = world_of c.args.world in
     let before = g.W.Write.contents c.args.out in
     let told = c.outcome_of.ensures P first c.args.limit _ _ _ _
-    (at_most {limit = c.args.limit} c.min-most.ensures c.run_threads-answer.ensures) in
+    (at_most P first _ c.args.limit _ _ _ _ _ c.min-most.ensures c.run_threads-answer.ensures) in
     let begun = subst (λ (o : Option (List ℕ)). IsOutcome false c.args.limit P first o
     (g.W.Write.contents c.run_threads-answer.result.1.to) c.outcome_of.result) (ap g.W.Write.contents c.new.ensures)
     told in
