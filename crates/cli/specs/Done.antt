@@ -13,7 +13,7 @@ use Rattle.init_engine.specs.Rests.{IsRest}
 use Rattle.init_engine.specs.Rounds.{Turns}
 use Rattle.init_engine.specs.Schedules.{AreRuns, schedule_of}
 use Rattle.init_engine.specs.declared.stuck.Rest.{Rest}
-use Rattle.journal.specs.Journals.{IsJournalOf, lines_of}
+use Rattle.journal.specs.Journals.{lines_of}
 use Rattle.building.specs.Builds.{text_of}
 use Rattle.building.specs.declared.build.Built.{Built}
 use Rattle.report.specs.Texts.{report_text}
@@ -32,6 +32,7 @@ use Rattle.cli.specs.Audits.{HasAudited}
 use Rattle.cli.specs.Begins.{IsBegun, IsBegunFromImage}
 use Rattle.cli.specs.Explanations.{HasExplained}
 use Rattle.cli.specs.Files.{AreBytesOf, Contents, OthersStay}
+use Rattle.cli.specs.FirstSteps.{Spells}
 use Rattle.cli.specs.ImageBuilds.{IsBuiltText}
 use Rattle.cli.specs.ImageRuns.{IsTextOf}
 use Rattle.cli.specs.Inspections.{HasInspected}
@@ -102,7 +103,8 @@ pub record HasRunImage (old new : Contents) (words : Run) (before after : Option
   pub begun : IsBegunFromImage old words.image.now words.entries.now image first
   pub ended : HasEndedWithJournal old new words image.program first before after status
 
--- The image ran from the entries of the words by the journal that the file holds.
+-- The image ran from the entries of the words by the journal that the file holds, or by its first steps, as many as the
+-- words say.
 pub record HasReplayed (holds : Contents) (words : Replay) (before after : Option (List ℕ)) (status : Status)
     : Type 0 where
   pub image : ImageTables
@@ -111,7 +113,7 @@ pub record HasReplayed (holds : Contents) (words : Replay) (before after : Optio
   pub bytes : List ℕ
   pub held : AreBytesOf (holds words.journal.now) bytes
   pub runs : List (ℕ × ℕ)
-  pub journal : IsJournalOf bytes runs
+  pub journal : Spells words.at bytes runs
   pub last : World
   pub run : Reaches (program_of image.program) first (schedule_of runs) last
   pub status_is : status ≡ replay_status (seen last).threads

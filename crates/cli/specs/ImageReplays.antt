@@ -18,6 +18,7 @@ use Rattle.cli.specs.declared.fault.CommandFault.TheVariants.{Image, Text, Entry
 use Rattle.cli.specs.declared.image_replay.ImageReplay.{ImageReplay}
 use Rattle.cli.specs.Begins.{IsBegunFromImage}
 use Rattle.cli.specs.Files.{AreBytesOf, Contents}
+use Rattle.cli.specs.FirstSteps.{Spells}
 use Rattle.cli.specs.ImageBuilds.{IsReadAsBuilt}
 use Rattle.cli.specs.ImageRuns.{IsSomeTextOf}
 
@@ -42,12 +43,12 @@ pub data IsNoReplay (bytes : List ℕ) (names : List (List ℕ)) (text : List �
       → IsJournalOf text runs → IsFromStart I names (λ first. IsTurnFault (program_of I.program) first runs line)
       → IsNoReplay bytes names text (Turn line)
 
--- The image that one file holds, run from the entries of the words by the journal that another file holds, leads to
--- where this is seen.
+-- The image that one file holds, run from the entries of the words by the journal that another file holds, or by its
+-- first steps, leads to where this is seen.
 pub record IsReplayOf (holds : Contents) (words : Replay) (replay : ImageReplay) : Type 0 where
   pub first : World
   pub begun : IsBegunFromImage holds words.image.now words.entries.now replay.image first
   pub bytes : List ℕ
   pub held : AreBytesOf (holds words.journal.now) bytes
-  pub journal : IsJournalOf bytes replay.journal
+  pub journal : Spells words.at bytes replay.journal
   pub shown : IsReplay (program_of replay.image.program) first replay.journal replay.seen

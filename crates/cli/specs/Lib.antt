@@ -9,6 +9,7 @@ pub mod Laws
 pub mod steps
 pub mod ImageBuilds
 pub mod ImageRuns
+pub mod FirstSteps
 pub mod ImageReplays
 pub mod Renewals
 pub mod Headline

@@ -22,13 +22,14 @@ use crate::builds::build;
 use crate::files::put;
 use crate::image_build::GREATEST_LENGTH;
 use crate::reporting::report_bytes;
-use crate::{Build, CommandFault, Files};
+use crate::totals::tell_totals;
+use crate::watching::Watched;
+use crate::{Build, CommandFault, Files, Watch};
 use building::{BuildFault, BuildOptions, Built};
 use image_writer::image_text;
 use std::alloc::{AllocError, Global};
 use std::sync::Wait;
 use std::thread::Threads;
-use wave_scheduler::Gate;
 
 /// The texts of a build.
 #[derive(Drop)]
@@ -43,25 +44,41 @@ pub(crate) struct BuildTexts {
 ///
 /// # Errors
 /// As `build`.
-pub(crate) fn build_texts<G: Gate, R: Threads + Wait + Sync>(
+pub(crate) fn build_texts<H: Watch + Sync, R: Threads + Wait + Sync>(
     rt: &R,
     alloc: Global,
     files: &[Vec<u8>],
     options: &BuildOptions<'_>,
     workers: u32,
-    gate: &G,
+    watch: &H,
     reports: bool,
 ) -> Result<BuildTexts, BuildFault>
     requires { AreAtMost GREATEST_LENGTH (texts_of files.now) }
     ensures { IfOk result (AreTextsOfBuild (texts_of files.now) options.now reports) }
 {
-    match build(rt, alloc, files, options, workers, gate) {
-        Ok(built) => match texts_of_build(alloc, &built, reports) {
+    match build(rt, alloc, files, options, workers, &Watched { watch }) {
+        Ok(built) => match texts_of_watched(alloc, &built, watch, reports) {
             Ok(texts) => Ok(texts),
             Err(_) => Err(BuildFault::Memory),
         },
         Err(fault) => Err(fault),
     }
+}
+
+/// The texts of a build, of which it is told what it came to.
+fn texts_of_watched<H: Watch>(
+    alloc: Global,
+    built: &Built,
+    watch: &H,
+    reports: bool,
+) -> Result<BuildTexts, AllocError>
+    requires short { AreShort built.now.image.program.family }
+    requires waves { GiveWaves built.now.image built.now.verdicts }
+    ensures { (texts : List (List ℕ)) (options : Options) → IsBuildOfClassFiles texts options built.now
+        → IfOk result (AreTextsOfBuild texts options reports) }
+{
+    tell_totals(alloc, built, watch);
+    texts_of_build(alloc, built, reports)
 }
 
 /// The texts of a build.

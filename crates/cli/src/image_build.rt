@@ -17,7 +17,6 @@ use crate::build_texts::{build_texts, image_bytes, write_texts};
 use crate::builds::build;
 use crate::files::contents;
 use crate::requested::{options_of, refusal_of};
-use crate::watching::Watched;
 use crate::{Build, CommandFault, Files, Stage, Watch};
 use building::{BuildFault, BuildOptions};
 use std::alloc::Global;
@@ -83,7 +82,6 @@ pub(crate) fn run<R: Threads + Wait + Sync, F: Files, H: Watch + Sync>(
     let texts = contents(alloc, building.files.as_slice(), files, GREATEST_LENGTH)?;
     let options = options_of(building);
     watch.begin(Stage::Building);
-    let gate = Watched { watch };
     let reports = words.report.is_some();
     match build_texts(
         rt,
@@ -91,7 +89,7 @@ pub(crate) fn run<R: Threads + Wait + Sync, F: Files, H: Watch + Sync>(
         texts.as_slice(),
         &options,
         words.workers,
-        &gate,
+        watch,
         reports,
     ) {
         Ok(made) => {

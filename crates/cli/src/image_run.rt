@@ -126,7 +126,13 @@ pub(crate) fn start<R: Threads + Sync, F: Files>(
     ensures same { F.holds files.new ≡ F.holds files.old }
 {
     match get(alloc, words.image, files) {
-        Ok(bytes) => start_by_several(rt, alloc, words.entries, bytes, words.stacks),
+        Ok(bytes) => start_by_several(
+            rt,
+            alloc,
+            words.entries,
+            bytes,
+            words.stacks || words.verbose,
+        ),
         Err(refusal) => Err(refusal),
     }
 }

@@ -23,7 +23,7 @@ use crate::lazy::LazyStart;
 use crate::lists::{Given, names, words_given};
 use crate::meanings::{Errors, Voice};
 use crate::outputs::{overwritten, overwritten_list};
-use crate::standing::{tell_image_stacks, tell_lazy_stacks};
+use crate::standing::{tell_image_stacks, tell_lazy_stacks, tell_limit, told_of};
 use crate::telling::{
     refuse, tell_audit, tell_built, tell_done, tell_endings, tell_inspected, tell_no_files,
     tell_overwritten, tell_replay, tell_report, tell_words,
@@ -551,7 +551,12 @@ fn tell_run_and_stacks<F: Files, E: Errors>(
         (schedule_of ran.now.journal) result }
 {
     let status = tell_run(alloc, program, words, ran, files, errors);
-    tell_image_stacks(alloc, program, again, ran.journal.runs(), status, errors)
+    let runs = ran.journal.runs();
+    let status = tell_limit(alloc, words.verbose, runs, status, errors);
+    match told_of(words.stacks, words.verbose, ran.threads.as_slice()) {
+        Some(told) => tell_image_stacks(alloc, program, again, told, runs, status, errors),
+        None => status,
+    }
 }
 
 /// Tells how the threads of a run ended, and writes its journal where the words ask for it.
@@ -657,15 +662,12 @@ fn tell_turns<E: Errors>(
     let threads = ran.threads.as_slice();
     let status = status_of(threads, ran.rest);
     let status = tell_endings(alloc, program, threads, status, errors);
-    if !words.stacks {
-        return status;
+    let runs = ran.schedule.as_slice();
+    let status = tell_limit(alloc, words.verbose, runs, status, errors);
+    match told_of(words.stacks, words.verbose, threads) {
+        Some(told) => {
+            tell_lazy_stacks(alloc, program, words.entries, told, runs, status, errors)
+        }
+        None => status,
     }
-    tell_lazy_stacks(
-        alloc,
-        program,
-        words.entries,
-        ran.schedule.as_slice(),
-        status,
-        errors,
-    )
 }

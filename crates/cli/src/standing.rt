@@ -8,12 +8,74 @@ use crate::meanings::Errors;
 use crate::telling::refuse;
 use crate::{CommandFault, Status, entries_of};
 use image_reader::world;
-use init_engine::World;
+use init_engine::{Ending, World};
 use object_graph::Image;
 use program::Program;
-use stacks::{stack_lines, stacks};
-use std::alloc::Global;
+use stacks::{ThreadStacks, end_lines, stack_lines, stacks, variable_lines};
+use std::alloc::{AllocError, Global};
 use thread_runner::replay::ReplayFault;
+
+/// What is told of where the threads of a run stand.
+#[derive(Clone, Copy)]
+pub(crate) enum Told {
+    /// The stacks of all that have not returned.
+    Stacks,
+    /// The same, and what their innermost frames hold.
+    Variables,
+    /// The innermost place of each that has ended by a fault or an exception.
+    Ends,
+}
+
+/// What is told of a run whose threads have ended so, where stacks are asked for, or all that there is to tell.
+pub(crate) fn told_of(stacks: bool, is_verbose: bool, threads: &[Ending]) -> Option<Told> {
+    if stacks {
+        Some(Told::Stacks)
+    } else if is_verbose && one_ended_badly(threads) {
+        Some(Told::Ends)
+    } else {
+        None
+    }
+}
+
+/// Whether a thread has ended by a fault or an exception.
+fn one_ended_badly(threads: &[Ending]) -> bool {
+    threads.iter().any(|ending| matches!(ending, Ending::Uncaught(_) | Ending::Faulted(_)))
+}
+
+/// Tells how many steps a run had that its limit ended, and the option that says how many it may have.
+pub(crate) fn tell_limit<E: Errors>(
+    alloc: Global,
+    is_verbose: bool,
+    runs: &[(u32, u64)],
+    status: Status,
+    errors: &mut E,
+) -> Status
+    requires { status ≢ Status.Words }
+    ensures words { result ≢ Status.Words }
+    ensures done { IsOver result → result ≡ status }
+{
+    if !(is_verbose && matches!(status, Status::Limit)) {
+        return status;
+    }
+    match limit_line(alloc, runs) {
+        Ok(line) => {
+            errors.tell(line.as_str());
+            status
+        }
+        Err(_) => refuse(&CommandFault::Memory, errors),
+    }
+}
+
+/// How many steps a run had that its limit ended, and the option.
+fn limit_line(alloc: Global, runs: &[(u32, u64)]) -> Result<String, AllocError> {
+    let mut steps = 0u64;
+    for run in runs {
+        steps = steps.saturating_add(run.1);
+    }
+    format!(in alloc;
+        "the run was ended after {steps} steps: --limit N lets it have another number\n"
+    )
+}
 
 /// Whether a run that ends a command so has threads that have not returned.
 fn some_stand(status: Status) -> bool
@@ -27,6 +89,7 @@ pub(crate) fn tell_lazy_stacks<E: Errors>(
     alloc: Global,
     program: &Program,
     list: &str,
+    told: Told,
     runs: &[(u32, u64)],
     status: Status,
     errors: &mut E,
@@ -37,7 +100,11 @@ pub(crate) fn tell_lazy_stacks<E: Errors>(
     ensures done { IsOver result → result ≡ status }
 {
     if some_stand(status) {
-        tell_stacks(lazy_stacks(alloc, program, list, runs), status, errors)
+        tell_stacks(
+            lazy_stacks(alloc, program, list, told, runs),
+            status,
+            errors,
+        )
     } else {
         status
     }
@@ -48,6 +115,7 @@ pub(crate) fn tell_image_stacks<E: Errors>(
     alloc: Global,
     program: &Program,
     again: Option<World>,
+    told: Told,
     runs: &[(u32, u64)],
     status: Status,
     errors: &mut E,
@@ -60,7 +128,11 @@ pub(crate) fn tell_image_stacks<E: Errors>(
     if some_stand(status)
         && let Some(first) = again
     {
-        tell_stacks(stacks_from(alloc, program, first, runs), status, errors)
+        tell_stacks(
+            stacks_from(alloc, program, first, told, runs),
+            status,
+            errors,
+        )
     } else {
         status
     }
@@ -71,6 +143,7 @@ pub(crate) fn tell_replay_stacks<E: Errors>(
     alloc: Global,
     image: &Image,
     list: &str,
+    told: Told,
     runs: &[(u32, u64)],
     status: Status,
     errors: &mut E,
@@ -81,7 +154,11 @@ pub(crate) fn tell_replay_stacks<E: Errors>(
     ensures done { IsOver result → result ≡ status }
 {
     if some_stand(status) {
-        tell_stacks(replay_stacks(alloc, image, list, runs), status, errors)
+        tell_stacks(
+            replay_stacks(alloc, image, list, told, runs),
+            status,
+            errors,
+        )
     } else {
         status
     }
@@ -107,11 +184,12 @@ fn tell_stacks<E: Errors>(
     }
 }
 
-/// The stacks after a schedule from the lazy start of the entries of a list.
+/// What is told after a schedule from the lazy start of the entries of a list.
 fn lazy_stacks(
     alloc: Global,
     program: &Program,
     list: &str,
+    told: Told,
     runs: &[(u32, u64)],
 ) -> Result<String, CommandFault>
     requires { AreRuns runs.now }
@@ -119,16 +197,17 @@ fn lazy_stacks(
 {
     let entries = entries_of(alloc, list)?;
     match World::lazy(alloc, program, entries.as_slice()) {
-        Ok(first) => stacks_from(alloc, program, first, runs),
+        Ok(first) => stacks_from(alloc, program, first, told, runs),
         Err(fault) => Err(CommandFault::of_entry(fault)),
     }
 }
 
-/// The stacks after a schedule from the start of an image, from the entries of a list.
+/// What is told after a schedule from the start of an image, from the entries of a list.
 fn replay_stacks(
     alloc: Global,
     image: &Image,
     list: &str,
+    told: Told,
     runs: &[(u32, u64)],
 ) -> Result<String, CommandFault>
     requires { AreRuns runs.now }
@@ -136,24 +215,43 @@ fn replay_stacks(
 {
     let entries = entries_of(alloc, list)?;
     match world(alloc, image, entries.as_slice()) {
-        Ok(first) => stacks_from(alloc, image.program(), first, runs),
+        Ok(first) => stacks_from(alloc, image.program(), first, told, runs),
         Err(fault) => Err(CommandFault::of_entry(fault)),
     }
 }
 
-/// The stacks after a schedule from a world.
+/// What is told after a schedule from a world.
 fn stacks_from(
     alloc: Global,
     program: &Program,
     first: World,
+    told: Told,
     runs: &[(u32, u64)],
 ) -> Result<String, CommandFault>
     requires { AreRuns runs.now }
     ensures { IfErr result (λ refusal. refusal_status refusal ≡ Status.Refused) }
 {
     match stacks(alloc, program, first, runs) {
-        Ok(stacks) => Ok(stack_lines(alloc, program, &stacks)?),
+        Ok(stacks) => Ok(lines_of(alloc, program, &stacks, told)?),
         Err(ReplayFault::Memory) => Err(CommandFault::Memory),
         Err(ReplayFault::Turn(line)) => Err(CommandFault::Turn(line)),
+    }
+}
+
+/// What is told of stacks.
+fn lines_of(
+    alloc: Global,
+    program: &Program,
+    stacks: &ThreadStacks,
+    told: Told,
+) -> Result<String, AllocError> {
+    match told {
+        Told::Stacks => stack_lines(alloc, program, stacks),
+        Told::Variables => {
+            let mut text = stack_lines(alloc, program, stacks)?;
+            text.push_str(&variable_lines(alloc, program, stacks)?)?;
+            Ok(text)
+        }
+        Told::Ends => end_lines(alloc, program, stacks),
     }
 }

@@ -12,7 +12,7 @@ use crate::auditing::Audited;
 use crate::meanings::Errors;
 use crate::outputs::Clash;
 use crate::running::send_seen;
-use crate::standing::tell_replay_stacks;
+use crate::standing::{Told, tell_replay_stacks, told_of};
 use crate::status::status_of_replay;
 use crate::{
     CommandFault, CutShort, ImageReplay, Replay, Request, Stage, Status, Watch, WordsFault,
@@ -68,10 +68,27 @@ fn tell_replay_threads<E: Errors>(
         status_of_replay(threads),
         errors,
     );
-    if !words.stacks {
-        return status;
+    match told_of_replay(words, threads) {
+        Some(told) => tell_replay_stacks(
+            alloc,
+            image,
+            words.entries,
+            told,
+            journal.runs(),
+            status,
+            errors,
+        ),
+        None => status,
     }
-    tell_replay_stacks(alloc, image, words.entries, journal.runs(), status, errors)
+}
+
+/// What is told of where the threads of a replay stand, which have ended so.
+fn told_of_replay(words: &Replay<'_>, threads: &[Ending]) -> Option<Told> {
+    if words.at.is_some() {
+        Some(Told::Variables)
+    } else {
+        told_of(words.stacks, words.verbose, threads)
+    }
 }
 
 /// Tells how threads ended.
@@ -120,7 +137,10 @@ pub(crate) fn tell_built<E: Errors, H: Watch>(
 {
     watch.begin(Stage::Ended);
     match built {
-        Ok(()) => Status::Done,
+        Ok(()) => {
+            tell_summary(alloc, watch, errors);
+            Status::Done
+        }
         Err(refusal) => refuse_build(alloc, &refusal, watch, errors),
     }
 }
@@ -140,8 +160,21 @@ pub(crate) fn tell_report<W: Write, E: Errors, H: Watch>(
 {
     watch.begin(Stage::Ended);
     match report {
-        Ok(report) => tell_text(report.as_slice(), out, errors),
+        Ok(report) => {
+            let status = tell_text(report.as_slice(), out, errors);
+            if matches!(status, Status::Done) {
+                tell_summary(alloc, watch, errors);
+            }
+            status
+        }
         Err(refusal) => refuse_build(alloc, &refusal, watch, errors),
+    }
+}
+
+/// Tells what a build came to and what it took, if that is wanted.
+fn tell_summary<E: Errors, H: Watch>(alloc: Global, watch: &H, errors: &mut E) {
+    if let Some(line) = watch.summary(alloc) {
+        errors.tell(line.as_str());
     }
 }
 

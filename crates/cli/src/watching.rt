@@ -43,6 +43,15 @@ pub trait Watch {
     /// A class was initialized, or refused.
     fn done(&self);
 
+    /// Whether it is to be told what the build came to.
+    fn wants_totals(&self) -> bool;
+
+    /// What the build came to, in words.
+    fn built(&self, totals: &str);
+
+    /// The line on what the build came to, and on what it took. None where that is not wanted, or not known.
+    fn summary(&self, alloc: Global) -> Option<String>;
+
     /// The work of the build now, in words that follow 'while'. None where it is not known or memory is refused for it.
     fn work(&self, alloc: Global) -> Option<String>;
 }
@@ -61,6 +70,16 @@ impl Watch for Unwatched {
     fn class(&self, _name: &str) {}
 
     fn done(&self) {}
+
+    fn wants_totals(&self) -> bool {
+        false
+    }
+
+    fn built(&self, _totals: &str) {}
+
+    fn summary(&self, _alloc: Global) -> Option<String> {
+        None
+    }
 
     fn work(&self, _alloc: Global) -> Option<String> {
         None

@@ -30,7 +30,9 @@ Standard output gets nothing. The image is the same for any order of the class f
 can't be written, the file is named as it was given: 'preinit: File app.img'. So is a class file of 2^32 bytes or more.
 A number of workers outside 1 to 64 is refused: 'preinit: Wave Workers'.
 
-With --report the report of this build is written, before the image.
+With --report the report of this build is written, before the image. With --verbose standard error gets a last line: how
+many classes are initialized, with how many objects and bytes, how many are left by each reason, and how much time and
+memory it took.
 
 For example: preinit build --out app.img app/Main.class app/Table.class";
 
@@ -56,6 +58,9 @@ With --stacks the stacks of the threads that have not returned follow, innermost
 A line shows a method, a pc, and the instruction there with what it names. Of a thread that ended it is the stack before
 its last step. Of a long stack the first and last 20 places are shown. To find them the run is made a second time.
 
+With --verbose comes the first line of the stack of each thread that ended by a fault or an exception, for which the run
+is made a second time, too; and, where the limit ended the run, how many steps it had.
+
 A class file at fault is named by its index among the files, from 0, and an entry at fault by its index in the list.
 
 For example: preinit lazy --entries app.Main app/Main.class app/Table.class";
@@ -79,6 +84,10 @@ another class, at more than an array's length or an enum constant's name and ord
 
 An option is refused as Empty and the index of an item, Unknown and the item, Both and a class that is requested for
 both times, or Demanded and a class that can't be initialized at build time, with the reason.
+
+With --verbose standard error gets what can be done about each reason that stands, and then a line on what the build came
+to: how many classes are initialized, with how many objects and bytes, how many are left by each reason, and how much time
+and memory it took.
 
 For example: preinit report --initialize-at-run-time app.log app/Main.class app/Table.class";
 
@@ -163,6 +172,14 @@ steps that it takes, in decimal without leading zeros.
 A bad journal is refused as Text and the first line at fault, or Turn and the line of a thread that does not exist or
 can't take a step, from 1. Of a Turn, lines of one thread that follow one another count as one, as in a journal that a
 run wrote.
+
+With --at it ends after so many steps of the journal, or at its end, and standard error gets the stacks of the threads
+that have not returned, as with --stacks, and then what the innermost frame of each holds: its local variables and its
+operands, the lowest first:
+  thread 0 local 1 int 5
+  thread 0 local 2 app/Table (3, made by app/Main)
+  thread 0 operand 0 \"a string\"
+An object is named by its class, its number and who made it.
 
 For example: preinit replay --journal app.journal --entries app.Main,app.Other app.img";
 

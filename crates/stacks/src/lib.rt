@@ -4,6 +4,8 @@
 mod lines;
 mod places;
 mod replaying;
+mod variables;
 
-pub use lines::stack_lines;
+pub use lines::{end_lines, stack_lines};
 pub use replaying::{ThreadStacks, stacks};
+pub use variables::variable_lines;

@@ -105,6 +105,19 @@ fn stack_text(alloc: Global, program: &Program, frames: &Frames) -> Result<Strin
     Ok(text)
 }
 
+/// The innermost place of a stack, as a line.
+fn first_text(alloc: Global, program: &Program, frames: &Frames) -> Result<String, AllocError> {
+    let thread = frames.thread;
+    let places = places_of(alloc, frames)?;
+    match places.first() {
+        Some(place) => {
+            let place = place_text(alloc, program, *place)?;
+            format!(in alloc; "thread {thread} at {place}\n")
+        }
+        None => Ok(String::new(alloc)),
+    }
+}
+
 /// The class or the monitor that the next step of a thread needs and another one may hold.
 fn needed(program: &Program, frames: &Frames) -> Trigger {
     if let Some(frame) = frames.innermost() {
@@ -160,6 +173,31 @@ pub fn stack_lines(
             Thread::Ended(_) => {
                 if let Some(Some(frames)) = stacks.before.get(place) {
                     text.push_str(&stack_text(alloc, program, frames)?)?;
+                }
+            }
+        }
+    }
+    Ok(text)
+}
+
+/// The innermost place of each thread that has ended by a fault, or by an exception that nothing caught, before its last
+/// step: a line for each.
+///
+/// # Errors
+/// `AllocError` where memory is refused.
+pub fn end_lines(
+    alloc: Global,
+    program: &Program,
+    stacks: &ThreadStacks,
+) -> Result<String, AllocError> {
+    let mut text = String::new(alloc);
+    let threads = stacks.world.threads();
+    for place in 0..threads.len() {
+        match &threads[place] {
+            Thread::Going(_) | Thread::Ended(End::Returned) => {}
+            Thread::Ended(_) => {
+                if let Some(Some(frames)) = stacks.before.get(place) {
+                    text.push_str(&first_text(alloc, program, frames)?)?;
                 }
             }
         }
