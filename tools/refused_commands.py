@@ -23,6 +23,7 @@ OLD = b"old"
 # runs so long that `evaluator` goes on by courses.
 CLASSES = "questions/java/init_enum_basic_*.class"
 LEFT_OUT, SEVEN = "questions/java/lambda_Main.class", "crates/preinit/data/M.class"
+TOTALS = re.compile(rb"(?:[A-Z]\w+: [^\n]*\n)*classes \d[^\n]*\n\Z")
 LONG = "questions/java/algo_crc_adler_Crc.class"
 # Small classes that have all sorts of objects, and threads that print, raise and hold a monitor: on these
 # `product_cases` makes its own calls.
@@ -72,6 +73,8 @@ def run(program, words, targets, **refused):
         with open(f"{program.data}/{name}", "wb") as it:
             it.write(OLD)
     status, out, errors, told = program.ended(*words, WHOLE_RUN=1, **refused)
+    # What a build came to has its time in it, and is not told where memory was refused for it.
+    errors = TOTALS.sub(b"", errors)
     files = [held(program.data, name) for name in targets]
     return (status, out, errors, files, sorted(os.listdir(program.data))), told
 

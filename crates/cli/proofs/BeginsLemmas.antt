@@ -14,6 +14,7 @@ use Rattle.cli.specs.Begins.{IsBegun, IsBegunFromFile}
 use Rattle.cli.specs.Done.{HasEndedByTurns, HasEndedWithJournal, HasRunImage, HasRunLazily}
 use Rattle.cli.specs.Entries.{entry_names}
 use Rattle.cli.specs.Files.{AreBytesOf, AreTextsOf, Contents}
+use Rattle.cli.specs.ImageBuilds.{IsReadAsBuilt}
 use Rattle.cli.specs.ImageRuns.{IsSomeTextOf}
 use Rattle.cli.specs.Running.{IsCutShort, IsOfRun}
 use Rattle.cli.specs.Runs.{IsProgramOf}
@@ -45,6 +46,7 @@ begun_from_file holds name list bytes P w held is = record {
     bytes = bytes;
     held = held;
     text = is.text;
+    built = is.built;
     program = is.begun.linked;
     start = is.begun.start;
   };
@@ -59,14 +61,16 @@ module _ {S E : Type 0} (program : S → Tables) (world : S → World) where
   start_from_file holds name list bytes (Err e) held is = tt
 
   pub start_from_bytes : (bytes list : List ℕ) (I : ImageTables) (names : List (List ℕ)) (r : Result S E)
-      → names ≡ entry_names list → IsSomeTextOf bytes I → IfOk r (λ s. IsBegunFrom I names (program s) (world s))
+      → names ≡ entry_names list → IsSomeTextOf bytes I → IsReadAsBuilt bytes I
+      → IfOk r (λ s. IsBegunFrom I names (program s) (world s))
       → IfOk r (λ s. IsBegunFromBytes bytes list (program s) (world s))
-  start_from_bytes bytes list I names (Ok s) are text is = record {
+  start_from_bytes bytes list I names (Ok s) are text built is = record {
     image = I;
     text = text;
+    built = built;
     begun = subst (λ (ns : List (List ℕ)). IsBegunFrom I ns (program s) (world s)) are is;
   }
-  start_from_bytes bytes list I names (Err e) are text is = tt
+  start_from_bytes bytes list I names (Err e) are text built is = tt
 
 -- ---- runs from there
 
@@ -85,12 +89,12 @@ module _ (holds : Contents) (first : World) (before after : Option (List ℕ)) w
 
   pub has_run_image : (new : Contents) (words : Run) (P : Tables) (status : Status)
       → IsBegunFromFile holds words.image.now words.entries.now P first
-      → HasEndedWithJournal holds new words.journal P first before after status
+      → HasEndedWithJournal holds new words P first before after status
       → HasRunImage holds new words before after status
   has_run_image new words P status begun ended = record {
     image = begun.image;
     first = first;
     begun = begun.begun;
-    ended = subst (λ (Q : Tables). HasEndedWithJournal holds new words.journal Q first before after status)
+    ended = subst (λ (Q : Tables). HasEndedWithJournal holds new words Q first before after status)
         (sym begun.program) ended;
   }

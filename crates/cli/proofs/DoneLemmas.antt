@@ -1,15 +1,16 @@
 -- What was done that words ask for, and its status.
-use Rattle.std.proofs.Common.{◌≡◌, ◌⊎◌, inl, inr, ◌∙◌, ℕ, ◌==◌, List, refl, sym, ap, if◌then◌else◌}
+use Rattle.std.proofs.Common.{◌≡◌, ◌≢◌, ◌⊎◌, inl, inr, ◌∙◌, ℕ, ◌==◌, List, refl, sym, ap, if◌then◌else◌}
 use Rattle.std.proofs.Common.{subst}
 use Rattle.std.specs.Borrow.{Bor}
 use Rattle.std.specs.Global.{Vec}
 use Rattle.std.specs.List.{flat_map}
+use Rattle.command_line.specs.CommandLine.{AsksHelp}
 use Rattle.command_line.specs.Files.{files_of, with_files}
 use Rattle.command_line.specs.Requests.{IsLine, texts}
 use Rattle.command_line.specs.declared.request.Request.{Request}
 use Rattle.cli.specs.declared.status.Status.{Status}
 use Rattle.cli.specs.declared.status.Status.TheVariants.{Done, Refused, Words, Failed, Stuck, Limit, Ended}
-use Rattle.cli.specs.Done.{AskFor, HoldsWithLists}
+use Rattle.cli.specs.Done.{AskFor, HoldsWithLists, IsNoRequest}
 use Rattle.cli.specs.Files.{Contents}
 use Rattle.cli.specs.Outputs.{AreListsApart}
 use Rattle.cli.specs.declared.lists.Given.{Given}
@@ -49,6 +50,27 @@ asked_for words holds now asked P read apart same has = record {
   lists = apart;
   has = held_before holds now asked P same has;
 }
+
+-- ---- words that are no request
+
+pub help_if_over : (words : List (List ℕ)) (status : Status) → IsOver status → IsNoRequest words status
+    → AsksHelp words
+help_if_over words Done over asked = asked
+help_if_over words Refused over asked = absurd over
+help_if_over words Words over asked = absurd over
+help_if_over words Failed over asked = absurd over
+help_if_over words Stuck over asked = asked
+help_if_over words Limit over asked = asked
+help_if_over words Ended over asked = asked
+
+pub help_asked : (words : List (List ℕ)) (status : Status) → status ≢ Words → AsksHelp words → IsNoRequest words status
+help_asked words Done told asked = asked
+help_asked words Refused told asked = tt
+help_asked words Words told asked = absurd (told refl)
+help_asked words Failed told asked = asked
+help_asked words Stuck told asked = asked
+help_asked words Limit told asked = asked
+help_asked words Ended told asked = asked
 
 -- ---- refusals
 

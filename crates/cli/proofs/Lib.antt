@@ -30,3 +30,5 @@ mod OutputLemmas
 mod CountLemmas
 mod ListLemmas
 mod ImageReplayLemmas
+mod LeftLemmas
+mod BuiltRunLemmas

@@ -25,7 +25,7 @@ use Rattle.cli.proofs.SameEntriesLemmas.{still_fail}
 
 -- ---- what files hold
 
-known_bytes : (held : Option (List ℕ)) (known bytes : List ℕ) → held ≡ Some known → AreBytesOf held bytes
+pub known_bytes : (held : Option (List ℕ)) (known bytes : List ℕ) → held ≡ Some known → AreBytesOf held bytes
     → bytes ≡ known
 known_bytes None known bytes is of = cc
 known_bytes (Some known) other bytes is of = of ∙ same_Some known other is

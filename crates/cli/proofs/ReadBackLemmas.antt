@@ -10,10 +10,12 @@ use Rattle.machine.specs.Linked.{program_of}
 use Rattle.wave_scheduler.specs.Settled.{region_in}
 use Rattle.object_graph.specs.Cuts.{IsCutOf}
 use Rattle.object_graph.specs.Images.{ImageTables, region_or, start_image}
-use Rattle.image_reader.specs.Readings.{IsSameImage}
+use Rattle.image_format.specs.Images.{SomeText}
+use Rattle.image_writer.specs.ImageTexts.{told_of}
+use Rattle.image_reader.specs.Readings.{IsOfOwnStrings, IsSameImage}
 use Rattle.image_reader.specs.Starts.{IsImageStart}
 use Rattle.cli.specs.Headline.{BothStart, NeitherStarts, TakesTheSameEntries}
-use Rattle.cli.specs.ImageBuilds.{IsImageOf}
+use Rattle.cli.specs.ImageBuilds.{IsImageOf, IsReadAsBuilt}
 
 module _ (I J : ImageTables) (same : IsSameImage I J) where
   -- the regions of the one, over the program of the other
@@ -109,3 +111,10 @@ module _ (I J : ImageTables) (same : IsSameImage I J) where
         of_same (subst
         (λ (P : Tables). IsImageOf texts run_time build_time budget (record { program = P; regions = I.regions }))
         (sym same.program) of)
+
+-- bytes that are read as the image whose text they are
+pub read_as_built : (bytes : List ℕ) (J : ImageTables)
+    → ((I : ImageTables) → IsOfOwnStrings I → SomeText bytes I.program.family (told_of I) → IsSameImage I J)
+    → IsReadAsBuilt bytes J
+read_as_built bytes J same texts run_time build_time budget is =
+    read_back is.image J (same is.image is.own_strings (inl is.text)) texts run_time build_time budget is.of

@@ -12,6 +12,7 @@ use Rattle.command_line.specs.declared.request.Request.{Request}
 use Rattle.command_line.specs.declared.request.Request.TheVariants as requests
 use Rattle.cli.specs.Entries.{entry_names}
 use Rattle.cli.specs.Files.{AreBytesOf, AreTextsOf, Contents}
+use Rattle.cli.specs.ImageBuilds.{IsReadAsBuilt}
 use Rattle.cli.specs.ImageRuns.{IsSomeTextOf}
 use Rattle.cli.specs.Runs.{IsProgramOf}
 
@@ -27,6 +28,9 @@ pub record IsBegunFromImage (holds : Contents) (name list : List ℕ) (I : Image
   pub bytes : List ℕ
   pub held : AreBytesOf (holds name) bytes
   pub text : IsSomeTextOf bytes I
+  -- Where a build wrote the file, this is the image of that build. So what is said of what class files and their image
+  -- show holds of the run that begins here.
+  pub built : IsReadAsBuilt bytes I
   pub program : IsProgram I.program
   pub start : IsImageStart I (entry_names list) w
 

@@ -1,6 +1,6 @@
 -- What a command has done that was not refused, by what its words ask for: what its files held and hold, and what
 -- standard output got.
-use Rattle.std.specs.Prelude.{◌≡◌, ◌≢◌, ◌⊎◌, ℕ, List, Option, Some, None, length}
+use Rattle.std.specs.Prelude.{◌≡◌, ◌≢◌, ◌⊎◌, ℕ, List, Option, Some, None, length, ⊤}
 use Rattle.std.specs.Borrow.{Bor}
 use Rattle.std.specs.Global.{Vec}
 use Rattle.std.specs.Io.KnownBytes.{Appends}
@@ -13,12 +13,13 @@ use Rattle.init_engine.specs.Rests.{IsRest}
 use Rattle.init_engine.specs.Rounds.{Turns}
 use Rattle.init_engine.specs.Schedules.{AreRuns, schedule_of}
 use Rattle.init_engine.specs.declared.stuck.Rest.{Rest}
-use Rattle.journal.specs.Journals.{IsJournalOf, lines_of}
+use Rattle.journal.specs.Journals.{lines_of}
 use Rattle.building.specs.Builds.{text_of}
 use Rattle.building.specs.declared.build.Built.{Built}
 use Rattle.report.specs.Texts.{report_text}
+use Rattle.command_line.specs.CommandLine.{AsksHelp}
 use Rattle.command_line.specs.Files.{files_of, with_files}
-use Rattle.command_line.specs.Requests.{IsLine, texts}
+use Rattle.command_line.specs.Requests.{AskNothing, IsLine, texts}
 use Rattle.command_line.specs.declared.request.Build.{Build}
 use Rattle.command_line.specs.declared.request.Building.{Building}
 use Rattle.command_line.specs.declared.request.Lazy.{Lazy}
@@ -31,16 +32,18 @@ use Rattle.cli.specs.Audits.{HasAudited}
 use Rattle.cli.specs.Begins.{IsBegun, IsBegunFromImage}
 use Rattle.cli.specs.Explanations.{HasExplained}
 use Rattle.cli.specs.Files.{AreBytesOf, Contents, OthersStay}
+use Rattle.cli.specs.FirstSteps.{Spells}
 use Rattle.cli.specs.ImageBuilds.{IsBuiltText}
 use Rattle.cli.specs.ImageRuns.{IsTextOf}
 use Rattle.cli.specs.Inspections.{HasInspected}
+use Rattle.cli.specs.Journaled.{KeepsLimit}
 use Rattle.cli.specs.Lists.{NamesGiven}
 use Rattle.cli.specs.Outputs.{AreListsApart, IsApart}
 use Rattle.cli.specs.Renewals.{IsRenewed}
 use Rattle.cli.specs.Requested.{IsAskedBuild}
 use Rattle.cli.specs.Status.{replay_status, run_status}
 use Rattle.cli.specs.declared.status.Status.{Status}
-use Rattle.cli.specs.declared.status.Status.TheVariants.{Done}
+use Rattle.cli.specs.declared.status.Status.TheVariants.{Done, Refused, Words}
 
 -- ---- runs
 
@@ -82,13 +85,15 @@ abbrev pub IsWritten : Contents → Contents → Option (Bor (List ℕ)) → Lis
 IsWritten old new None schedule = new ≡ old
 IsWritten old new (Some name) schedule = IsWrittenTo old new name.now schedule
 
--- A run from a world has ended so, and its journal is written.
-pub record HasEndedWithJournal (old new : Contents) (journal : Option (Bor (List ℕ))) (P : Tables) (first : World)
+-- A run from a world has ended so, by turns or by threads as the words say, at its limit if not before. Its journal is
+-- written.
+pub record HasEndedWithJournal (old new : Contents) (words : Run) (P : Tables) (first : World)
     (before after : Option (List ℕ)) (status : Status) : Type 0 where
   pub schedule : List ℕ
   pub last : World
   pub ended : HasEnded P first schedule last before after status
-  pub written : IsWritten old new journal schedule
+  pub keeps : KeepsLimit words.turns words.limit P first schedule last ended.rest
+  pub written : IsWritten old new words.journal schedule
 
 -- The image ran from the entries of the words, and its journal was written.
 pub record HasRunImage (old new : Contents) (words : Run) (before after : Option (List ℕ)) (status : Status)
@@ -96,9 +101,10 @@ pub record HasRunImage (old new : Contents) (words : Run) (before after : Option
   pub image : ImageTables
   pub first : World
   pub begun : IsBegunFromImage old words.image.now words.entries.now image first
-  pub ended : HasEndedWithJournal old new words.journal image.program first before after status
+  pub ended : HasEndedWithJournal old new words image.program first before after status
 
--- The image ran from the entries of the words by the journal that the file holds.
+-- The image ran from the entries of the words by the journal that the file holds, or by its first steps, as many as the
+-- words say.
 pub record HasReplayed (holds : Contents) (words : Replay) (before after : Option (List ℕ)) (status : Status)
     : Type 0 where
   pub image : ImageTables
@@ -107,7 +113,7 @@ pub record HasReplayed (holds : Contents) (words : Replay) (before after : Optio
   pub bytes : List ℕ
   pub held : AreBytesOf (holds words.journal.now) bytes
   pub runs : List (ℕ × ℕ)
-  pub journal : IsJournalOf bytes runs
+  pub journal : Spells words.at bytes runs
   pub last : World
   pub run : Reaches (program_of image.program) first (schedule_of runs) last
   pub status_is : status ≡ replay_status (seen last).threads
@@ -193,7 +199,18 @@ pub record AskFor (words : List (List ℕ)) (holds : Contents) (P : Request → 
   pub lists : AreListsApart asked
   pub has : HoldsWithLists holds asked P
 
--- Help was asked for, and some text went out.
+-- What words ask for in place of a request, by the status that their command then ends with: nothing, or help. An
+-- allocation may fail before that is known.
+abbrev pub IsNoRequest : List (List ℕ) → Status → Type 0
+IsNoRequest words Refused = ⊤
+IsNoRequest words Words = AskNothing words
+IsNoRequest words _ = AsksHelp words
+
+-- Words ask for some request, or for none.
+abbrev pub IsAsked : List (List ℕ) → Status → Type 0
+IsAsked words status = ((request : Request) × IsLine words request) ⊎ IsNoRequest words status
+
+-- Some text went out, as help.
 pub record HasHelped (before after : Option (List ℕ)) (status : Status) : Type 0 where
   pub text : List ℕ
   pub sent : Appends before after text
@@ -202,5 +219,5 @@ pub record HasHelped (before after : Option (List ℕ)) (status : Status) : Type
 -- What was done that the words ask for.
 abbrev pub DidWords : List (List ℕ) → Contents → Contents → Option (List ℕ) → Option (List ℕ) → Status → Type 0
 DidWords words old new before after status =
-    ((new ≡ old) × HasHelped before after status)
+    ((new ≡ old) × AsksHelp words × HasHelped before after status)
     ⊎ AskFor words old (λ request. IsApart request × IsDone old new before after request status)

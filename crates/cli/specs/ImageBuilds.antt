@@ -32,3 +32,9 @@ pub record IsBuiltText (texts : List (List ℕ)) (run_time build_time : Option (
   pub of : IsImageOf texts run_time build_time budget image
   pub text : IsTextOf bytes image
   pub own_strings : IsOfOwnStrings image
+
+-- Bytes that are the text of an image that is built of class files are read as such an image.
+abbrev pub IsReadAsBuilt : List ℕ → ImageTables → Type 0
+IsReadAsBuilt bytes I =
+    (texts : List (List ℕ)) (run_time build_time : Option (List ℕ)) (budget : ℕ)
+    → IsBuiltText texts run_time build_time budget bytes → IsImageOf texts run_time build_time budget I

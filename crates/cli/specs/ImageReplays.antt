@@ -18,12 +18,15 @@ use Rattle.cli.specs.declared.fault.CommandFault.TheVariants.{Image, Text, Entry
 use Rattle.cli.specs.declared.image_replay.ImageReplay.{ImageReplay}
 use Rattle.cli.specs.Begins.{IsBegunFromImage}
 use Rattle.cli.specs.Files.{AreBytesOf, Contents}
+use Rattle.cli.specs.FirstSteps.{Spells}
+use Rattle.cli.specs.ImageBuilds.{IsReadAsBuilt}
 use Rattle.cli.specs.ImageRuns.{IsSomeTextOf}
 
 -- The image of these bytes, run from the entries of these names by the journal of this text, leads to where this is
 -- seen.
 pub record IsReplayed (bytes : List ℕ) (names : List (List ℕ)) (text : List ℕ) (replay : ImageReplay) : Type 0 where
   pub image : IsSomeTextOf bytes replay.image
+  pub built : IsReadAsBuilt bytes replay.image
   pub program : IsProgram replay.image.program
   pub journal : IsJournalOf text replay.journal
   pub shown : IsImageReplay replay.image names replay.journal replay.seen
@@ -40,12 +43,12 @@ pub data IsNoReplay (bytes : List ℕ) (names : List (List ℕ)) (text : List �
       → IsJournalOf text runs → IsFromStart I names (λ first. IsTurnFault (program_of I.program) first runs line)
       → IsNoReplay bytes names text (Turn line)
 
--- The image that one file holds, run from the entries of the words by the journal that another file holds, leads to
--- where this is seen.
+-- The image that one file holds, run from the entries of the words by the journal that another file holds, or by its
+-- first steps, leads to where this is seen.
 pub record IsReplayOf (holds : Contents) (words : Replay) (replay : ImageReplay) : Type 0 where
   pub first : World
   pub begun : IsBegunFromImage holds words.image.now words.entries.now replay.image first
   pub bytes : List ℕ
   pub held : AreBytesOf (holds words.journal.now) bytes
-  pub journal : IsJournalOf bytes replay.journal
+  pub journal : Spells words.at bytes replay.journal
   pub shown : IsReplay (program_of replay.image.program) first replay.journal replay.seen

@@ -3,19 +3,27 @@
 use Rattle.std.specs.Prelude.{◌≡◌, ℕ, List, map, Option, Some}
 use Rattle.std.specs.List.{All}
 use Rattle.classfile.specs.Faults.{IsBytes}
+use Rattle.semantics.specs.Worlds.{World}
 use Rattle.program.specs.Tables.{Tables}
+use Rattle.object_graph.specs.Images.{ImageTables}
+use Rattle.building.specs.Builds.{text_of}
 use Rattle.building.specs.Laws.{SaysTheSame}
 use Rattle.building.specs.declared.build.BuildFault.{BuildFault}
 use Rattle.building.specs.declared.build.BuildFault.TheVariants as faults
 use Rattle.command_line.specs.Requests.{texts}
+use Rattle.command_line.specs.declared.request.Build.{Build}
+use Rattle.command_line.specs.declared.request.Building.{Building}
 use Rattle.command_line.specs.declared.request.Lazy.{Lazy}
 use Rattle.command_line.specs.declared.request.Request.TheVariants as requests
 use Rattle.command_line.specs.declared.request.Run.{Run}
 use Rattle.cli.specs.declared.fault.CommandFault.{CommandFault}
+use Rattle.cli.specs.Begins.{IsBegunFromImage}
 use Rattle.cli.specs.Builds.{BuildFails}
+use Rattle.cli.specs.Done.{HasBuilt}
+use Rattle.cli.specs.ImageBuilds.{IsImageOf}
 use Rattle.cli.specs.ImageRuns.{IsNoRun}
 use Rattle.cli.specs.Entries.{entry_names}
-use Rattle.cli.specs.Files.{Contents}
+use Rattle.cli.specs.Files.{AreTextsOf, Contents}
 use Rattle.cli.specs.Running.{IsOfRun}
 use Rattle.cli.specs.Runs.{IsProgramOf, IsRefused, NotLinked}
 
@@ -70,3 +78,17 @@ RefusedImagesAreNotRun =
     (holds : Contents) (words : Run) (bytes : List ℕ) (refusal : CommandFault) (before after : Option (List ℕ))
     → IsBytes bytes → holds words.image.now ≡ Some bytes → IsNoRun bytes (entry_names words.entries.now) refusal
     → ¬ IsOfRun holds (requests.Run words) before after
+
+-- The image is one of the class files that the words of a build name, built as they say.
+pub record IsImageOfWords (holds : Contents) (words : Building) (I : ImageTables) : Type 0 where
+  pub files : List (List ℕ)
+  pub held : AreTextsOf holds (texts words.files.items) files
+  pub of : IsImageOf files (text_of words.run_time) (text_of words.build_time) words.budget I
+
+-- What a build wrote is run as the image of that build, where it is known what its file holds. So the run shows what
+-- the class files show under some schedule, and conversely.
+abbrev pub BuiltImagesAreRun : Type 0
+BuiltImagesAreRun =
+    (old new : Contents) (words : Build) (bytes list : List ℕ) (I : ImageTables) (w : World) → HasBuilt old new words
+    → new words.image.now ≡ Some bytes → IsBegunFromImage new words.image.now list I w
+    → IsImageOfWords old words.building I

@@ -9,6 +9,7 @@ pub mod Laws
 pub mod steps
 pub mod ImageBuilds
 pub mod ImageRuns
+pub mod FirstSteps
 pub mod ImageReplays
 pub mod Renewals
 pub mod Headline
@@ -23,4 +24,6 @@ pub mod Outputs
 pub mod Audits
 pub mod Explanations
 pub mod Inspections
+pub mod Totals
 pub mod Lists
+pub mod Left

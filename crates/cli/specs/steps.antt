@@ -3,3 +3,4 @@ pub mod Builds
 pub mod BuildTexts
 pub mod Lists
 pub mod Starts
+pub mod Left

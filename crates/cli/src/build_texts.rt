@@ -2,31 +2,34 @@
 //!
 //! Whether a report is wanted is asked in a function of its own, so that nothing joins before the texts are put
 //! together.
-ghost use Rattle.std.specs.Prelude.{◌≡◌, ◌≢◌, ℕ, List, true, IfOk, OnOk};
+ghost use Rattle.std.specs.Prelude.{◌≡◌, ◌≢◌, ℕ, List, Some, true, IfErr, IfOk, OnOk};
 ghost use Rattle.building.specs.Builds.{text_of as list_of};
 ghost use Rattle.building.specs.declared.build.BuildOptions.{BuildOptions as Options};
 ghost use Rattle.image_format.specs.Images.{AreShort};
 ghost use Rattle.report.specs.Texts.{report_text};
 ghost use Rattle.report.specs.Waves.{GiveWaves};
 ghost use Rattle.cli.specs.Builds.{IsBuildOfClassFiles};
+ghost use Rattle.cli.specs.CommandFault.{refusal_status};
 ghost use Rattle.cli.specs.Done.{AreBothWritten, AreWritten};
 ghost use Rattle.cli.specs.ImageBuilds.{AreAtMost, IsBuiltText};
 ghost use Rattle.cli.specs.ImageRuns.{IsTextOf};
 ghost use Rattle.cli.specs.Outputs.{IsReportApart};
 ghost use Rattle.cli.specs.Runs.{texts_of};
 ghost use Rattle.cli.specs.steps.BuildTexts.{AreTextsOfBuild};
+ghost use Rattle.cli.specs.steps.Left.{LeavesTexts};
 
 use crate::builds::build;
 use crate::files::put;
 use crate::image_build::GREATEST_LENGTH;
 use crate::reporting::report_bytes;
-use crate::{Build, CommandFault, Files};
+use crate::totals::tell_totals;
+use crate::watching::Watched;
+use crate::{Build, CommandFault, Files, Watch};
 use building::{BuildFault, BuildOptions, Built};
 use image_writer::image_text;
 use std::alloc::{AllocError, Global};
 use std::sync::Wait;
 use std::thread::Threads;
-use wave_scheduler::Gate;
 
 /// The texts of a build.
 #[derive(Drop)]
@@ -41,25 +44,41 @@ pub(crate) struct BuildTexts {
 ///
 /// # Errors
 /// As `build`.
-pub(crate) fn build_texts<G: Gate, R: Threads + Wait + Sync>(
+pub(crate) fn build_texts<H: Watch + Sync, R: Threads + Wait + Sync>(
     rt: &R,
     alloc: Global,
     files: &[Vec<u8>],
     options: &BuildOptions<'_>,
     workers: u32,
-    gate: &G,
+    watch: &H,
     reports: bool,
 ) -> Result<BuildTexts, BuildFault>
     requires { AreAtMost GREATEST_LENGTH (texts_of files.now) }
     ensures { IfOk result (AreTextsOfBuild (texts_of files.now) options.now reports) }
 {
-    match build(rt, alloc, files, options, workers, gate) {
-        Ok(built) => match texts_of_build(alloc, &built, reports) {
+    match build(rt, alloc, files, options, workers, &Watched { watch }) {
+        Ok(built) => match texts_of_watched(alloc, &built, watch, reports) {
             Ok(texts) => Ok(texts),
             Err(_) => Err(BuildFault::Memory),
         },
         Err(fault) => Err(fault),
     }
+}
+
+/// The texts of a build, of which it is told what it came to.
+fn texts_of_watched<H: Watch>(
+    alloc: Global,
+    built: &Built,
+    watch: &H,
+    reports: bool,
+) -> Result<BuildTexts, AllocError>
+    requires short { AreShort built.now.image.program.family }
+    requires waves { GiveWaves built.now.image built.now.verdicts }
+    ensures { (texts : List (List ℕ)) (options : Options) → IsBuildOfClassFiles texts options built.now
+        → IfOk result (AreTextsOfBuild texts options reports) }
+{
+    tell_totals(alloc, built, watch);
+    texts_of_build(alloc, built, reports)
 }
 
 /// The texts of a build.
@@ -107,6 +126,7 @@ fn report_if(alloc: Global, built: &Built, wanted: bool) -> Result<Vec<u8>, Allo
 ///
 /// # Errors
 /// `File` of the first that can't be written, or memory.
+#[tactic(auto, using(crate::proofs::LeftLemmas::image_refused))]
 pub(crate) fn write_texts<F: Files>(
     alloc: Global,
     words: &Build<'_>,
@@ -114,8 +134,10 @@ pub(crate) fn write_texts<F: Files>(
     files: &mut F,
 ) -> Result<(), CommandFault>
     requires { IsReportApart words.now }
-    ensures { OnOk result (AreWritten (F.holds files.old) (F.holds files.new) words.now.image.now words.now.report
-        texts.now.image.items texts.now.report.items) }
+    ensures written { OnOk result (AreWritten (F.holds files.old) (F.holds files.new) words.now.image.now
+        words.now.report texts.now.image.items texts.now.report.items) }
+    ensures left { IfErr result (λ refusal. LeavesTexts (F.holds files.old) (F.holds files.new) words.now.image.now
+        words.now.report texts.now.report.items (refusal_status refusal)) }
 {
     match words.report {
         Some(name) => write_both(alloc, words.image, name, texts, files),
@@ -124,7 +146,7 @@ pub(crate) fn write_texts<F: Files>(
 }
 
 /// Writes both texts of a build, the image last.
-#[tactic(auto, using(crate::proofs::OutputLemmas::both_written))]
+#[tactic(auto, using(crate::proofs::LeftLemmas::of_both_texts))]
 fn write_both<F: Files>(
     alloc: Global,
     image: &str,
@@ -133,8 +155,10 @@ fn write_both<F: Files>(
     files: &mut F,
 ) -> Result<(), CommandFault>
     requires { report.now ≢ image.now }
-    ensures { OnOk result (AreBothWritten (F.holds files.old) (F.holds files.new) image.now report.now
+    ensures written { OnOk result (AreBothWritten (F.holds files.old) (F.holds files.new) image.now report.now
         texts.now.image.items texts.now.report.items) }
+    ensures left { IfErr result (λ refusal. LeavesTexts (F.holds files.old) (F.holds files.new) image.now
+        (Some report.entry) texts.now.report.items (refusal_status refusal)) }
 {
     put(alloc, report, texts.report.as_slice(), files)?;
     put(alloc, image, texts.image.as_slice(), files)

@@ -1,11 +1,11 @@
 //! Runs of images by threads.
 
-ghost use Rattle.std.specs.Prelude.{◌≡◌, ℕ, List, Option};
+ghost use Rattle.std.specs.Prelude.{◌≡◌, ℕ, List, Option, false};
 ghost use Rattle.semantics.specs.Worlds.{World as FirstWorld};
 ghost use Rattle.program.specs.Tables.{Tables};
 ghost use Rattle.init_engine.specs.Turns.{world_of};
 ghost use Rattle.thread_runner.specs.Answers.{IsAnswer};
-ghost use Rattle.cli.specs.Journaled.{IsOutcome};
+ghost use Rattle.cli.specs.Journaled.{IsOutcome, limit_by_threads};
 ghost use Rattle.cli.specs.Status.{run_status};
 
 use crate::{CommandFault, Status, status_of};
@@ -43,10 +43,10 @@ pub(crate) fn run_by_threads<R: Threads + Wait + Sync, W: Write + Send + Drop>(
     limit: u64,
     out: W,
 ) -> (Result<Journaled, CommandFault>, W)
-    ensures { IsOutcome program.now (world_of world) (W.contents out) (W.contents result.1) result.0 }
+    ensures { IsOutcome false limit program.now (world_of world) (W.contents out) (W.contents result.1) result.0 }
 {
-    let limit = limit.min(GREATEST_LIMIT);
-    let (answer, sink) = run_threads(rt, alloc, program, world, &Open, Out::new(out), limit);
+    let most = limit.min(GREATEST_LIMIT);
+    let (answer, sink) = run_threads(rt, alloc, program, world, &Open, Out::new(out), most);
     let mut out = sink.into_inner();
     let outcome = flushed(outcome_of(answer), &mut out);
     (outcome, out)
@@ -55,7 +55,8 @@ pub(crate) fn run_by_threads<R: Threads + Wait + Sync, W: Write + Send + Drop>(
 /// What threads answered, as a command tells it.
 fn outcome_of(answer: Result<Ended, thread_runner::RunFault>) -> Result<Journaled, CommandFault>
     ensures { (P : Tables) (first : FirstWorld) (limit : ℕ) (before after : Option (List ℕ)) (failed failures : ℕ)
-        → IsAnswer P first limit answer before after failed failures → IsOutcome P first before after result }
+        → IsAnswer P first (limit_by_threads limit) answer before after failed failures
+        → IsOutcome false limit P first before after result }
 {
     match answer {
         Ok(ended) => Ok(ran(ended, Rest::Ended)),
@@ -86,9 +87,9 @@ fn flushed<W: Write>(
     outcome: Result<Journaled, CommandFault>,
     out: &mut W,
 ) -> Result<Journaled, CommandFault>
-    ensures { (P : Tables) (first : FirstWorld) (before : Option (List ℕ))
-        → IsOutcome P first before (W.contents out.old) outcome
-        → IsOutcome P first before (W.contents out.new) result }
+    ensures { (limit : ℕ) (P : Tables) (first : FirstWorld) (before : Option (List ℕ))
+        → IsOutcome false limit P first before (W.contents out.old) outcome
+        → IsOutcome false limit P first before (W.contents out.new) result }
 {
     match outcome {
         Ok(ran) => match out.flush() {

@@ -111,6 +111,7 @@ impl CommandFault {
     pub(crate) fn of_entry(fault: EntryFault) -> CommandFault
         ensures memory { fault ≡ EntryFault.Memory → result ≡ CommandFault.Memory }
         ensures other { fault ≢ EntryFault.Memory → result ≡ CommandFault.Entry fault }
+        ensures status { refusal_status result ≡ Status.Refused }
     {
         match fault {
             EntryFault::Memory => CommandFault::Memory,

@@ -1,9 +1,11 @@
 //! The files that a command reads and writes.
-ghost use Rattle.std.specs.Prelude.{◌≡◌, ◌≤◌, ◌++◌, ◌∷◌, [], true, IfOk, OnOk, length};
+ghost use Rattle.std.specs.Prelude.{◌≡◌, ◌≤◌, ◌++◌, ◌∷◌, [], true, IfErr, IfOk, OnOk, length};
 ghost use Rattle.command_line.specs.Requests.{texts};
+ghost use Rattle.cli.specs.CommandFault.{refusal_status};
 ghost use Rattle.cli.specs.Files.{AreBytesOf, AreTextsOf, OthersStay};
 ghost use Rattle.cli.specs.ImageBuilds.{AreAtMost};
 ghost use Rattle.cli.specs.Runs.{texts_of};
+ghost use Rattle.cli.specs.steps.Left.{LeavesFile};
 
 use crate::CommandFault;
 use std::alloc::{AllocError, Global};
@@ -66,11 +68,12 @@ pub trait Files {
     /// Makes a file of these bytes, in the place of one of that name. It changes no other file.
     ///
     /// # Errors
-    /// `Device` where the file can't be written, `Memory` where memory was refused. What the file
-    /// then holds is open.
+    /// `Device` where the file can't be written: what it then holds is open. `Memory` where memory was refused: then it
+    /// is as it was.
     fn put(&mut self, name: &str, bytes: &[u8]) -> Result<(), FileFault>
         ensures made { OnOk result (AreBytesOf (holds self.new name.now) bytes.now) }
-        ensures others { OthersStay (holds self.old) (holds self.new) name.now };
+        ensures others { OthersStay (holds self.old) (holds self.new) name.now }
+        ensures refused { IfErr result (λ fault. fault ≡ FileFault.Memory → holds self.new ≡ holds self.old) };
 
     /// Whether two names are of one file, as far as that can be seen. It changes no file.
     fn are_one(&mut self, first: &str, second: &str) -> bool
@@ -159,9 +162,14 @@ pub(crate) fn put<F: Files>(
 ) -> Result<(), CommandFault>
     ensures made { OnOk result (AreBytesOf (F.holds files.new name.now) bytes.now) }
     ensures others { OthersStay (F.holds files.old) (F.holds files.new) name.now }
+    ensures left { IfErr result
+        (λ refusal. LeavesFile (F.holds files.old) (F.holds files.new) name.now (refusal_status refusal)) }
 {
+    // Memory for the name is asked for first, so that a file that fails is always told as one.
+    let told = String::from_str(alloc, name)?;
     match files.put(name, bytes) {
         Ok(()) => Ok(()),
-        Err(fault) => Err(CommandFault::of_file(alloc, name, fault)),
+        Err(FileFault::Memory) => Err(CommandFault::Memory),
+        Err(FileFault::Device(cause)) => Err(CommandFault::File(told, cause)),
     }
 }

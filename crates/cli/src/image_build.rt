@@ -4,17 +4,19 @@ ghost use Rattle.building.specs.Builds.{text_of as list_of};
 ghost use Rattle.building.specs.declared.build.BuildFault.TheVariants.{Budget, Memory, Wave};
 ghost use Rattle.wave_scheduler.specs.Outcomes.{CanWork};
 ghost use Rattle.wave_scheduler.specs.declared.outcome.WaveFault.TheVariants.{Workers};
+ghost use Rattle.command_line.specs.declared.request.Request.TheVariants.{Build as ToBuild};
 ghost use Rattle.cli.specs.Builds.{BuildFails, IsBudget};
 ghost use Rattle.cli.specs.Done.{HasBuilt};
 ghost use Rattle.cli.specs.ImageBuilds.{AreAtMost, IsBuiltText};
+ghost use Rattle.cli.specs.Left.{HasLeft};
 ghost use Rattle.cli.specs.Outputs.{IsReportApart};
 ghost use Rattle.cli.specs.Runs.{texts_of};
+ghost use Rattle.cli.specs.steps.Left.{status_of_done};
 
 use crate::build_texts::{build_texts, image_bytes, write_texts};
 use crate::builds::build;
 use crate::files::contents;
 use crate::requested::{options_of, refusal_of};
-use crate::watching::Watched;
 use crate::{Build, CommandFault, Files, Stage, Watch};
 use building::{BuildFault, BuildOptions};
 use std::alloc::Global;
@@ -63,7 +65,7 @@ pub fn build_image<G: Gate, R: Threads + Wait + Sync>(
 /// # Errors
 /// The first refusal: a file, the budget, the workers, a class file, linking, a list of patterns, an output, or memory.
 /// A file that is longer than a class file of an image is refused as one that can't be read.
-#[tactic(auto, using(crate::proofs::OutputLemmas::has_built))]
+#[tactic(auto, using(crate::proofs::LeftLemmas::unchanged))]
 pub(crate) fn run<R: Threads + Wait + Sync, F: Files, H: Watch + Sync>(
     rt: &R,
     alloc: Global,
@@ -72,14 +74,14 @@ pub(crate) fn run<R: Threads + Wait + Sync, F: Files, H: Watch + Sync>(
     watch: &H,
 ) -> Result<(), CommandFault>
     requires { IsReportApart words.now }
-    ensures { OnOk result (HasBuilt (F.holds files.old) (F.holds files.new) words.now) }
+    ensures built { OnOk result (HasBuilt (F.holds files.old) (F.holds files.new) words.now) }
+    ensures left { HasLeft (F.holds files.old) (F.holds files.new) (ToBuild words.now) (status_of_done result) }
 {
     let building = &words.building;
     watch.begin(Stage::Reading);
     let texts = contents(alloc, building.files.as_slice(), files, GREATEST_LENGTH)?;
     let options = options_of(building);
     watch.begin(Stage::Building);
-    let gate = Watched { watch };
     let reports = words.report.is_some();
     match build_texts(
         rt,
@@ -87,7 +89,7 @@ pub(crate) fn run<R: Threads + Wait + Sync, F: Files, H: Watch + Sync>(
         texts.as_slice(),
         &options,
         words.workers,
-        &gate,
+        watch,
         reports,
     ) {
         Ok(made) => {

@@ -8,6 +8,7 @@ ghost use Rattle.cli.specs.ImageRuns.{IsSomeTextOf};
 ghost use Rattle.cli.specs.declared.fault.CommandFault.TheVariants.{Memory};
 
 use crate::files::get;
+use crate::first_steps::replay_first;
 use crate::{CommandFault, Files, Replay, entries_of};
 use classfile::ClassName;
 use image_reader::read;
@@ -92,5 +93,8 @@ pub(crate) fn replayed<F: Files>(
     let image = get(alloc, words.image, files)?;
     let journal = get(alloc, words.journal, files)?;
     let entries = entries_of(alloc, words.entries)?;
-    replay_image(alloc, image, entries.as_slice(), journal.as_slice())
+    match words.at {
+        Some(steps) => replay_first(alloc, image, entries.as_slice(), journal.as_slice(), steps),
+        None => replay_image(alloc, image, entries.as_slice(), journal.as_slice()),
+    }
 }

@@ -1,12 +1,12 @@
 //! From an image's bytes to what a run of it by turns shows, and the start of the command `run`.
-ghost use Rattle.std.specs.Prelude.{◌≡◌, ◌↔◌, ◌⊎◌, ℕ, List, Option, Err, IfErr, IfOk, length};
+ghost use Rattle.std.specs.Prelude.{◌≡◌, ◌↔◌, ◌⊎◌, Err, IfErr, IfOk, length};
 ghost use Rattle.program.specs.Programs.{IsProgram};
 ghost use Rattle.init_engine.specs.Starts.{IsEntryCount};
 ghost use Rattle.init_engine.specs.Turns.{world_of};
 ghost use Rattle.init_engine.specs.declared.fault.EntryFault.TheVariants.{Count};
 ghost use Rattle.image_reader.specs.Starts.{IsImageStart};
 ghost use Rattle.cli.specs.Begins.{IsBegunFromFile};
-ghost use Rattle.cli.specs.ImageBuilds.{IsBuiltText, IsImageOf};
+ghost use Rattle.cli.specs.ImageBuilds.{IsReadAsBuilt};
 ghost use Rattle.cli.specs.ImageRuns.{IsNoRun, IsShownFromImage, IsSomeTextOf};
 ghost use Rattle.cli.specs.steps.Starts.{IsBegunFrom, IsBegunFromBytes};
 ghost use Rattle.cli.specs.declared.fault.CommandFault.TheVariants.{Entry, Memory};
@@ -49,9 +49,7 @@ pub fn run_image(
     // The text of an image that is built of class files is run as such an image. So the headline holds of it: what it
     // shows, these class files show under some schedule of the lazy procedure, and conversely, for every list of
     // entries.
-    ensures built { (texts : List (List ℕ)) (run_time build_time : Option (List ℕ)) (budget : ℕ)
-        → IsBuiltText texts run_time build_time budget bytes.now
-        → IfOk result (λ run. IsImageOf texts run_time build_time budget run.image) }
+    ensures built { IfOk result (λ run. IsReadAsBuilt bytes.now run.image) }
 
     // What is answered otherwise is the first that is wrong, or that memory ran out.
     ensures refusal { IfErr result (λ refusal. (refusal ≡ Memory) ⊎ IsNoRun bytes.now entries.now refusal) }
@@ -87,9 +85,7 @@ fn image_world(
     ensures image { IfOk result (λ start. IsSomeTextOf bytes.now start.image) }
     ensures program { IfOk result (λ start. IsProgram start.image.program) }
     ensures start { IfOk result (λ start. IsImageStart start.image entries.now (world_of start.world)) }
-    ensures built { (texts : List (List ℕ)) (run_time build_time : Option (List ℕ)) (budget : ℕ)
-        → IsBuiltText texts run_time build_time budget bytes.now
-        → IfOk result (λ start. IsImageOf texts run_time build_time budget start.image) }
+    ensures built { IfOk result (λ start. IsReadAsBuilt bytes.now start.image) }
     ensures refusal { IsEntryCount (length entries.now)
         → IfErr result (λ refusal. (refusal ≡ Memory) ⊎ IsNoRun bytes.now entries.now refusal) }
 {
@@ -130,7 +126,13 @@ pub(crate) fn start<R: Threads + Sync, F: Files>(
     ensures same { F.holds files.new ≡ F.holds files.old }
 {
     match get(alloc, words.image, files) {
-        Ok(bytes) => start_by_several(rt, alloc, words.entries, bytes, words.stacks),
+        Ok(bytes) => start_by_several(
+            rt,
+            alloc,
+            words.entries,
+            bytes,
+            words.stacks || words.verbose,
+        ),
         Err(refusal) => Err(refusal),
     }
 }

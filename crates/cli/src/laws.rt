@@ -1,7 +1,7 @@
 //! Laws of bytes: they make a program, or are refused for one fault; and so are runs and builds of them. What is
-//! refused is not run.
+//! refused is not run, and what is built is.
 
-ghost use Rattle.cli.specs.Laws.{LinkedAreNotRefused, OneRefusal};
+ghost use Rattle.cli.specs.Laws.{BuiltImagesAreRun, LinkedAreNotRefused, OneRefusal};
 ghost use Rattle.cli.specs.Laws.{OneBuildRefusal, OneImageRunRefusal, OneRunRefusal};
 ghost use Rattle.cli.specs.Laws.{RefusedFilesAreNotRun, RefusedImagesAreNotRun};
 
@@ -34,4 +34,9 @@ pub fn one_build_refusal()
 pub fn refused_are_not_run()
     ensures files { RefusedFilesAreNotRun }
     ensures images { RefusedImagesAreNotRun }
+{}
+
+/// An image that a build wrote is run as the image of that build.
+pub fn built_images_are_run()
+    ensures { BuiltImagesAreRun }
 {}

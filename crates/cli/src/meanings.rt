@@ -18,6 +18,12 @@ const WORKERS: &str = "there are 1 to 64 workers";
 /// The range of a limit.
 const LIMITS: &str = "the limit is a number from 1 to 1000000000000000";
 
+/// The range of the number of steps of a replay.
+const STEPS: &str = "the number of steps is from 0 to 1000000000000000";
+
+/// What is wrong with a file that does not begin as a class file does.
+pub(crate) const NO_CLASS_FILE: &str = "no class file, since it does not begin with CAFEBABE";
+
 /// Standard error. A failure of it is ignored.
 pub(crate) trait Errors {
     /// Tells a text as it stands.
@@ -38,6 +44,8 @@ pub(crate) trait Errors {
 pub(crate) enum Untold {
     /// The class file of this place, and what is wrong with it.
     Class(usize, &'static str),
+    /// The file of this place does not begin as a class file does.
+    NoClassFile(usize),
     /// The entry of this place, and what is wrong with it.
     Entry(usize, &'static str),
     /// The image is wrong.
@@ -46,6 +54,8 @@ pub(crate) enum Untold {
     List(String),
     /// A class lacks a parent.
     Parents,
+    /// A class has the name of one that the machine has of itself.
+    BuiltIn,
     /// Two class files are of the class of this name, as it is printed.
     Twice(String),
 }
@@ -132,6 +142,8 @@ fn range_in(text: &str) -> Option<&'static str> {
         Some(WORKERS)
     } else if text.contains("' for '--limit <N>'") && !text.contains(" is not in ") {
         Some(LIMITS)
+    } else if text.contains("' for '--at <N>'") && !text.contains(" is not in ") {
+        Some(STEPS)
     } else {
         None
     }
@@ -140,6 +152,7 @@ fn range_in(text: &str) -> Option<&'static str> {
 /// What takes the names in the words to be told of a refusal. None where memory for it is refused.
 fn left_untold(alloc: Global, refusal: &CommandFault) -> Option<Untold> {
     match refusal {
+        CommandFault::Class(place, ClassFault::Magic) => Some(Untold::NoClassFile(*place)),
         CommandFault::Class(place, fault) => Some(Untold::Class(*place, class_meaning(fault))),
         CommandFault::Entry(fault) => match fault {
             EntryFault::Unknown { entry } | EntryFault::NoMain { entry } => {
@@ -168,6 +181,7 @@ fn left_of_link(alloc: Global, fault: &LinkFault) -> Option<Untold> {
             BadParent::UnknownSuperclass | BadParent::UnknownInterface => Some(Untold::Parents),
             _ => None,
         },
+        LinkFault::BuiltIn { .. } => Some(Untold::BuiltIn),
         _ => None,
     }
 }
@@ -225,7 +239,7 @@ fn class_meaning(fault: &ClassFault) -> &'static str {
         ClassFault::Version { .. } => {
             "a class file of another version than 52.0: compile with --release 8"
         }
-        ClassFault::Magic => "no class file, since it does not begin with CAFEBABE",
+        ClassFault::Magic => NO_CLASS_FILE,
         ClassFault::Truncated { .. } => "it ends within what begins at this byte",
         ClassFault::Extra { .. } => "it goes on at this byte, behind its class",
         _ => "it breaks a rule of class files, at this constant or byte",

@@ -3,8 +3,11 @@ ghost use Rattle.std.specs.Prelude.{◌≡◌, ◌⊎◌, List, Option, IfErr, I
 ghost use Rattle.loading.specs.Families.{Family as Classes};
 ghost use Rattle.image_format.specs.Regions.{ImageRegion as Told};
 ghost use Rattle.image_format.specs.Images.{ImageText};
+ghost use Rattle.command_line.specs.declared.request.Request.TheVariants.{Renew as ToRenew};
 ghost use Rattle.cli.specs.Done.{HasRenewed};
+ghost use Rattle.cli.specs.Left.{HasLeft};
 ghost use Rattle.cli.specs.Renewals.{IsNoImage, IsRenewed};
+ghost use Rattle.cli.specs.steps.Left.{status_of_done};
 ghost use Rattle.cli.specs.declared.fault.CommandFault.TheVariants.{Memory};
 
 use crate::files::{get, put};
@@ -39,12 +42,14 @@ pub fn renewed_image(alloc: Global, bytes: &[u8]) -> Result<Vec<u8>, CommandFaul
 ///
 /// # Errors
 /// The first refusal: the image's file, the image, the new file, or memory.
+#[tactic(auto, using(crate::proofs::LeftLemmas::renewed_left, crate::proofs::LeftLemmas::unchanged))]
 pub(crate) fn run<F: Files>(
     alloc: Global,
     words: &Renew<'_>,
     files: &mut F,
 ) -> Result<(), CommandFault>
-    ensures { OnOk result (HasRenewed (F.holds files.old) (F.holds files.new) words.now) }
+    ensures renewed { OnOk result (HasRenewed (F.holds files.old) (F.holds files.new) words.now) }
+    ensures left { HasLeft (F.holds files.old) (F.holds files.new) (ToRenew words.now) (status_of_done result) }
 {
     let bytes = get(alloc, words.image, files)?;
     let renewed = renewed_image(alloc, bytes.as_slice())?;

@@ -5,6 +5,7 @@ ghost use Rattle.report.specs.Texts.{report_text};
 ghost use Rattle.report.specs.Waves.{GiveWaves};
 
 use crate::requested::asked_build;
+use crate::totals::tell_cures_and_totals;
 use crate::{Building, CommandFault, Files, Watch};
 use building::Built;
 use report::render;
@@ -28,7 +29,10 @@ pub(crate) fn run<R: Threads + Wait + Sync, F: Files, H: Watch + Sync>(
     ensures same { F.holds files.new ≡ F.holds files.old }
 {
     match asked_build(rt, alloc, words, files, watch) {
-        Ok(built) => Ok(report_bytes(alloc, &built)?),
+        Ok(built) => {
+            tell_cures_and_totals(alloc, &built, watch);
+            Ok(report_bytes(alloc, &built)?)
+        }
         Err(refusal) => Err(refusal),
     }
 }

@@ -1,15 +1,17 @@
 //! One command, from its words to its exit status.
-ghost use Rattle.std.specs.Prelude.{◌≡◌, ◌≢◌, ◌≤◌, ◌⊎◌, OnOk};
+ghost use Rattle.std.specs.Prelude.{◌≡◌, ◌≢◌, ◌≤◌, ◌⊎◌, true, IfErr, OnOk};
 ghost use Rattle.command_line.specs.Files.{files_of};
 ghost use Rattle.command_line.specs.Requests.{texts};
 ghost use Rattle.init_engine.specs.Schedules.{AreRuns, schedule_of};
 ghost use Rattle.init_engine.specs.Turns.{world_of};
-ghost use Rattle.cli.specs.Done.{AskFor, DidWords, HasEndedByTurns, HasEndedWithJournal, HoldsWithLists, IsDone};
-ghost use Rattle.cli.specs.Done.{IsWritten, IsWrittenTo};
+ghost use Rattle.cli.specs.Done.{AskFor, DidWords, HasEndedByTurns, HasEndedWithJournal, HoldsWithLists};
+ghost use Rattle.cli.specs.Done.{IsAsked, IsDone, IsWrittenTo};
 ghost use Rattle.cli.specs.Journaled.{IsOutcome};
+ghost use Rattle.cli.specs.Left.{HasLeft, WordsHaveLeft};
 ghost use Rattle.cli.specs.Outputs.{IsApart};
 ghost use Rattle.cli.specs.CommandFault.{refusal_status};
 ghost use Rattle.cli.specs.Running.{IsCutShort, IsOfRun};
+ghost use Rattle.cli.specs.steps.Left.{LeavesFile, LeavesJournal, LeavesRun};
 ghost use Rattle.cli.specs.steps.Lists.{AreGivenAs};
 ghost use Rattle.cli.specs.Status.{IsOver, code_of, run_status};
 
@@ -21,7 +23,7 @@ use crate::lazy::LazyStart;
 use crate::lists::{Given, names, words_given};
 use crate::meanings::{Errors, Voice};
 use crate::outputs::{overwritten, overwritten_list};
-use crate::standing::{tell_image_stacks, tell_lazy_stacks};
+use crate::standing::{tell_image_stacks, tell_lazy_stacks, tell_limit, told_of};
 use crate::telling::{
     refuse, tell_audit, tell_built, tell_done, tell_endings, tell_inspected, tell_no_files,
     tell_overwritten, tell_replay, tell_report, tell_words,
@@ -69,7 +71,14 @@ pub fn command<R: Threads + Wait + Sync, F: Files, W: Write + Send + Drop, E: Wr
     // for, of what the files hold that they name.
     ensures refused { result.0 ≡ 1 → (result.1 ≡ out) ⊎ AskFor (texts words.now) (F.holds files.old)
         (λ request. IsOfRun (F.holds files.old) request (W.contents out) (W.contents result.1)) }
-    ensures words { result.0 ≡ 2 → result.1 ≡ out }
+    ensures words { result.0 ≡ 2 → (result.1 ≡ out) × (F.holds files.new ≡ F.holds files.old) }
+    // Words that ask for neither a request nor help end it with 2, or with 1 where memory was refused. With 2 they ask
+    // for nothing, or for a request whose outputs may be other files of it.
+    ensures asked { (status : Status) → result.0 ≡ code_of status → IsAsked (texts words.now) status }
+    // With 1 no file is changed, but for an output that was written before memory was refused: it holds what the words
+    // ask for. With 3 no file is changed but those that they name for output.
+    ensures left { (status : Status) → result.0 ≡ code_of status
+        → WordsHaveLeft (texts words.now) (F.holds files.old) (F.holds files.new) status }
     // With 0, 4, 5 and 6 what the words ask for is done.
     ensures done { (status : Status) → result.0 ≡ code_of status → IsOver status → DidWords (texts words.now)
         (F.holds files.old) (F.holds files.new) (W.contents out) (W.contents result.1) status }
@@ -119,7 +128,10 @@ pub fn command_holding<
     ensures range { result.status ≤ 6 }
     ensures refused { result.status ≡ 1 → (result.out ≡ out) ⊎ AskFor (texts words.now) (F.holds files.old)
         (λ request. IsOfRun (F.holds files.old) request (W.contents out) (W.contents result.out)) }
-    ensures words { result.status ≡ 2 → result.out ≡ out }
+    ensures words { result.status ≡ 2 → (result.out ≡ out) × (F.holds files.new ≡ F.holds files.old) }
+    ensures asked { (status : Status) → result.status ≡ code_of status → IsAsked (texts words.now) status }
+    ensures left { (status : Status) → result.status ≡ code_of status
+        → WordsHaveLeft (texts words.now) (F.holds files.old) (F.holds files.new) status }
     ensures done { (status : Status) → result.status ≡ code_of status → IsOver status → DidWords (texts words.now)
         (F.holds files.old) (F.holds files.new) (W.contents out) (W.contents result.out) status }
 {
@@ -143,7 +155,9 @@ fn do_words<R: Threads + Wait + Sync, F: Files, W: Write + Send + Drop, E: Write
 ) -> (Status, Held, W)
     ensures refused { result.0 ≡ Status.Refused → (result.2 ≡ out) ⊎ AskFor (texts words.now) (F.holds files.old)
         (λ request. IsOfRun (F.holds files.old) request (W.contents out) (W.contents result.2)) }
-    ensures words { result.0 ≡ Status.Words → result.2 ≡ out }
+    ensures words { result.0 ≡ Status.Words → (result.2 ≡ out) × (F.holds files.new ≡ F.holds files.old) }
+    ensures asked { IsAsked (texts words.now) result.0 }
+    ensures left { WordsHaveLeft (texts words.now) (F.holds files.old) (F.holds files.new) result.0 }
     ensures done { IsOver result.0 → DidWords (texts words.now) (F.holds files.old) (F.holds files.new)
         (W.contents out) (W.contents result.2) result.0 }
 {
@@ -171,7 +185,9 @@ fn do_asked<R: Threads + Wait + Sync, F: Files, W: Write + Send + Drop, E: Write
 ) -> (Status, Held, W)
     ensures refused { result.0 ≡ Status.Refused → (result.2 ≡ out) ⊎ HoldsWithLists (F.holds files.old) asked.entry
         (λ request. IsOfRun (F.holds files.old) request (W.contents out) (W.contents result.2)) }
-    ensures words { result.0 ≡ Status.Words → result.2 ≡ out }
+    ensures words { result.0 ≡ Status.Words → (result.2 ≡ out) × (F.holds files.new ≡ F.holds files.old) }
+    ensures left { (F.holds files.new ≡ F.holds files.old) ⊎ HoldsWithLists (F.holds files.old) asked.entry
+        (λ request. HasLeft (F.holds files.old) (F.holds files.new) request result.0) }
     ensures done { IsOver result.0 → HoldsWithLists (F.holds files.old) asked.entry (λ request. IsApart request
         × IsDone (F.holds files.old) (F.holds files.new) (W.contents out) (W.contents result.2) request result.0) }
 {
@@ -236,7 +252,9 @@ fn do_listed<
     ensures refused { result.0 ≡ Status.Refused → (result.2 ≡ out)
         ⊎ HoldsWithLists (F.holds files.old) listed.entry.asked
         (λ request. IsOfRun (F.holds files.old) request (W.contents out) (W.contents result.2)) }
-    ensures words { result.0 ≡ Status.Words → result.2 ≡ out }
+    ensures words { result.0 ≡ Status.Words → (result.2 ≡ out) × (F.holds files.new ≡ F.holds files.old) }
+    ensures left { (F.holds files.new ≡ F.holds files.old) ⊎ HoldsWithLists (F.holds files.old) listed.entry.asked
+        (λ request. HasLeft (F.holds files.old) (F.holds files.new) request result.0) }
     ensures done { IsOver result.0 → HoldsWithLists (F.holds files.old) listed.entry.asked (λ request. IsApart request
         × IsDone (F.holds files.old) (F.holds files.new) (W.contents out) (W.contents result.2) request result.0) }
 {
@@ -254,6 +272,7 @@ fn do_listed<
 }
 
 /// Does the command of a request whose class files are all named. Answers standard output back.
+#[tactic(auto, using(crate::proofs::LeftLemmas::left_before, crate::proofs::LeftLemmas::unchanged))]
 fn do_given<R: Threads + Wait + Sync, F: Files, W: Write + Send + Drop, E: Write, H: Watch + Sync>(
     rt: &R,
     alloc: Global,
@@ -265,7 +284,8 @@ fn do_given<R: Threads + Wait + Sync, F: Files, W: Write + Send + Drop, E: Write
 ) -> (Status, Held, W)
     ensures refused { result.0 ≡ Status.Refused → (result.2 ≡ out)
         ⊎ IsOfRun (F.holds files.old) request.now (W.contents out) (W.contents result.2) }
-    ensures words { result.0 ≡ Status.Words → result.2 ≡ out }
+    ensures words { result.0 ≡ Status.Words → (result.2 ≡ out) × (F.holds files.new ≡ F.holds files.old) }
+    ensures left { HasLeft (F.holds files.old) (F.holds files.new) request.now result.0 }
     ensures done { IsOver result.0 → IsApart request.now × IsDone (F.holds files.old) (F.holds files.new)
         (W.contents out) (W.contents result.2) request.now result.0 }
 {
@@ -298,6 +318,7 @@ fn do_and_tell<
     ensures refused { result.0 ≡ Status.Refused → (result.2 ≡ out)
         ⊎ IsOfRun (F.holds files.old) request.now (W.contents out) (W.contents result.2) }
     ensures words { result.0 ≢ Status.Words }
+    ensures left { HasLeft (F.holds files.old) (F.holds files.new) request.now result.0 }
     ensures done { IsOver result.0 → IsDone (F.holds files.old) (F.holds files.new) (W.contents out)
         (W.contents result.2) request.now result.0 }
 {
@@ -310,6 +331,7 @@ fn do_and_tell<
 }
 
 /// Does the command of a request. Answers standard output back.
+#[tactic(auto, using(crate::proofs::LeftLemmas::unchanged, crate::proofs::LeftLemmas::done_left))]
 fn do_request<
     R: Threads + Wait + Sync,
     F: Files,
@@ -329,6 +351,7 @@ fn do_request<
     ensures refused { result.0 ≡ Status.Refused → (result.2 ≡ out)
         ⊎ IsOfRun (F.holds files.old) request.now (W.contents out) (W.contents result.2) }
     ensures words { result.0 ≢ Status.Words }
+    ensures left { HasLeft (F.holds files.old) (F.holds files.new) request.now result.0 }
     ensures done { IsOver result.0 → IsDone (F.holds files.old) (F.holds files.new) (W.contents out)
         (W.contents result.2) request.now result.0 }
 {
@@ -383,6 +406,7 @@ fn run_lazily<F: Files, W: Write, E: Errors>(
     ensures refused { result.0 ≡ Status.Refused → (out.new ≡ out.old)
         ⊎ IsOfRun (F.holds files.old) (Request.Lazy words.now) (W.contents out.old) (W.contents out.new) }
     ensures words { result.0 ≢ Status.Words }
+    ensures same { F.holds files.new ≡ F.holds files.old }
     ensures done { IsOver result.0 → IsDone (F.holds files.old) (F.holds files.new) (W.contents out.old)
         (W.contents out.new) (Request.Lazy words.now) result.0 }
 {
@@ -396,6 +420,7 @@ fn run_lazily<F: Files, W: Write, E: Errors>(
 }
 
 /// Does the command `run`.
+#[tactic(auto, using(crate::proofs::LeftLemmas::unchanged))]
 fn run_image<R: Threads + Wait + Sync, F: Files, W: Write + Send + Drop, E: Errors>(
     rt: &R,
     alloc: Global,
@@ -407,6 +432,7 @@ fn run_image<R: Threads + Wait + Sync, F: Files, W: Write + Send + Drop, E: Erro
     ensures refused { result.0 ≡ Status.Refused → (result.2 ≡ out)
         ⊎ IsOfRun (F.holds files.old) (Request.Run words.now) (W.contents out) (W.contents result.2) }
     ensures words { result.0 ≢ Status.Words }
+    ensures left { HasLeft (F.holds files.old) (F.holds files.new) (Request.Run words.now) result.0 }
     ensures done { IsOver result.0 → IsDone (F.holds files.old) (F.holds files.new) (W.contents out)
         (W.contents result.2) (Request.Run words.now) result.0 }
 {
@@ -417,6 +443,7 @@ fn run_image<R: Threads + Wait + Sync, F: Files, W: Write + Send + Drop, E: Erro
 }
 
 /// Runs the start of an image as the words say, and tells how its threads ended.
+#[tactic(auto, using(crate::proofs::LeftLemmas::run_unchanged))]
 fn run_and_tell<R: Threads + Wait + Sync, F: Files, W: Write + Send + Drop, E: Errors>(
     rt: &R,
     alloc: Global,
@@ -429,7 +456,9 @@ fn run_and_tell<R: Threads + Wait + Sync, F: Files, W: Write + Send + Drop, E: E
     ensures refused { result.0 ≡ Status.Refused → IsCutShort start.program (world_of start.world)
         (W.contents out) (W.contents result.2) CutShort.Memory }
     ensures words { result.0 ≢ Status.Words }
-    ensures done { IsOver result.0 → HasEndedWithJournal (F.holds files.old) (F.holds files.new) words.now.journal
+    ensures left { LeavesRun (F.holds files.old) (F.holds files.new) words.now start.program (world_of start.world)
+        result.0 }
+    ensures done { IsOver result.0 → HasEndedWithJournal (F.holds files.old) (F.holds files.new) words.now
         start.program (world_of start.world) (W.contents out) (W.contents result.2) result.0 }
 {
     let ImageStart {
@@ -456,7 +485,8 @@ fn run_as_said<R: Threads + Wait + Sync, W: Write + Send + Drop>(
     words: &Run<'_>,
     mut out: W,
 ) -> (Result<Journaled, CommandFault>, W)
-    ensures { IsOutcome program.now (world_of world) (W.contents out) (W.contents result.1) result.0 }
+    ensures { IsOutcome words.now.turns words.now.limit program.now (world_of world) (W.contents out)
+        (W.contents result.1) result.0 }
 {
     if words.turns {
         let outcome = ran_by_turns(alloc, program, world, words.limit, &mut out);
@@ -473,7 +503,7 @@ fn ran_by_turns<W: Write>(
     limit: u64,
     out: &mut W,
 ) -> Result<Journaled, CommandFault>
-    ensures { IsOutcome program.now (world_of world) (W.contents out.old) (W.contents out.new) result }
+    ensures { IsOutcome true limit program.now (world_of world) (W.contents out.old) (W.contents out.new) result }
 {
     match run_world(alloc, program, world, limit, out) {
         Ok(ran) => Ok(journaled(ran)),
@@ -504,6 +534,7 @@ fn journaled(ran: Ran) -> Journaled
 
 /// Tells how the threads of a run ended, writes its journal where the words ask for it, and tells where the threads
 /// stand, if there is a world for that.
+#[tactic(auto, using(crate::proofs::LeftLemmas::journal_left))]
 fn tell_run_and_stacks<F: Files, E: Errors>(
     alloc: Global,
     program: &Program,
@@ -515,14 +546,21 @@ fn tell_run_and_stacks<F: Files, E: Errors>(
 ) -> Status
     requires { ran.now.status ≢ Status.Words }
     ensures words { result ≢ Status.Words }
-    ensures done { IsOver result → (result ≡ ran.now.status)
-        × IsWritten (F.holds files.old) (F.holds files.new) words.now.journal (schedule_of ran.now.journal) }
+    ensures told { IsOver result → result ≡ ran.now.status }
+    ensures journal { LeavesJournal (F.holds files.old) (F.holds files.new) words.now.journal
+        (schedule_of ran.now.journal) result }
 {
     let status = tell_run(alloc, program, words, ran, files, errors);
-    tell_image_stacks(alloc, program, again, ran.journal.runs(), status, errors)
+    let runs = ran.journal.runs();
+    let status = tell_limit(alloc, words.verbose, runs, status, errors);
+    match told_of(words.stacks, words.verbose, ran.threads.as_slice()) {
+        Some(told) => tell_image_stacks(alloc, program, again, told, runs, status, errors),
+        None => status,
+    }
 }
 
 /// Tells how the threads of a run ended, and writes its journal where the words ask for it.
+#[tactic(auto, using(crate::proofs::LeftLemmas::of_journal))]
 fn tell_run<F: Files, E: Errors>(
     alloc: Global,
     program: &Program,
@@ -533,8 +571,9 @@ fn tell_run<F: Files, E: Errors>(
 ) -> Status
     requires { ran.now.status ≢ Status.Words }
     ensures words { result ≢ Status.Words }
-    ensures done { IsOver result → (result ≡ ran.now.status)
-        × IsWritten (F.holds files.old) (F.holds files.new) words.now.journal (schedule_of ran.now.journal) }
+    ensures told { IsOver result → result ≡ ran.now.status }
+    ensures journal { LeavesJournal (F.holds files.old) (F.holds files.new) words.now.journal
+        (schedule_of ran.now.journal) result }
 {
     let status = tell_endings(alloc, program, ran.threads.as_slice(), ran.status, errors);
     let Some(name) = words.journal else {
@@ -553,8 +592,10 @@ fn write_journal<F: Files>(
     journal: &Journal,
     files: &mut F,
 ) -> Result<(), CommandFault>
-    ensures { OnOk result
+    ensures written { OnOk result
         (IsWrittenTo (F.holds files.old) (F.holds files.new) name.now (schedule_of journal.now)) }
+    ensures left { IfErr result
+        (λ refusal. LeavesFile (F.holds files.old) (F.holds files.new) name.now (refusal_status refusal)) }
 {
     let text = journal.text(alloc)?;
     put(alloc, name, text.as_slice(), files)
@@ -571,6 +612,7 @@ fn replay_image<F: Files, W: Write, E: Errors>(
     ensures refused { result.0 ≡ Status.Refused → (out.new ≡ out.old)
         ⊎ IsOfRun (F.holds files.old) (Request.Replay words.now) (W.contents out.old) (W.contents out.new) }
     ensures words { result.0 ≢ Status.Words }
+    ensures same { F.holds files.new ≡ F.holds files.old }
     ensures done { IsOver result.0 → IsDone (F.holds files.old) (F.holds files.new) (W.contents out.old)
         (W.contents out.new) (Request.Replay words.now) result.0 }
 {
@@ -620,15 +662,12 @@ fn tell_turns<E: Errors>(
     let threads = ran.threads.as_slice();
     let status = status_of(threads, ran.rest);
     let status = tell_endings(alloc, program, threads, status, errors);
-    if !words.stacks {
-        return status;
+    let runs = ran.schedule.as_slice();
+    let status = tell_limit(alloc, words.verbose, runs, status, errors);
+    match told_of(words.stacks, words.verbose, threads) {
+        Some(told) => {
+            tell_lazy_stacks(alloc, program, words.entries, told, runs, status, errors)
+        }
+        None => status,
     }
-    tell_lazy_stacks(
-        alloc,
-        program,
-        words.entries,
-        ran.schedule.as_slice(),
-        status,
-        errors,
-    )
 }

@@ -1,16 +1,18 @@
 //! What a command tells on standard output and standard error.
-ghost use Rattle.std.specs.Prelude.{◌≡◌, ◌≢◌, ◌⊎◌, IsOk, IsOkAnd};
+ghost use Rattle.std.specs.Prelude.{◌≡◌, ◌≢◌, ◌⊎◌, ℕ, List, IsOk, IsOkAnd};
 ghost use Rattle.std.specs.Io.KnownBytes.{Appends};
 ghost use Rattle.vm_state.specs.Output.{text_of};
-ghost use Rattle.cli.specs.Done.{HasHelped};
+ghost use Rattle.command_line.specs.Requests.{IsFaultOf};
+ghost use Rattle.cli.specs.Done.{HasHelped, IsNoRequest};
 ghost use Rattle.cli.specs.CommandFault.{refusal_status};
 ghost use Rattle.cli.specs.Status.{IsOver, audit_status, replay_status};
+ghost use Rattle.cli.specs.steps.Left.{status_of_done};
 
 use crate::auditing::Audited;
 use crate::meanings::Errors;
 use crate::outputs::Clash;
 use crate::running::send_seen;
-use crate::standing::tell_replay_stacks;
+use crate::standing::{Told, tell_replay_stacks, told_of};
 use crate::status::status_of_replay;
 use crate::{
     CommandFault, CutShort, ImageReplay, Replay, Request, Stage, Status, Watch, WordsFault,
@@ -66,10 +68,27 @@ fn tell_replay_threads<E: Errors>(
         status_of_replay(threads),
         errors,
     );
-    if !words.stacks {
-        return status;
+    match told_of_replay(words, threads) {
+        Some(told) => tell_replay_stacks(
+            alloc,
+            image,
+            words.entries,
+            told,
+            journal.runs(),
+            status,
+            errors,
+        ),
+        None => status,
     }
-    tell_replay_stacks(alloc, image, words.entries, journal.runs(), status, errors)
+}
+
+/// What is told of where the threads of a replay stand, which have ended so.
+fn told_of_replay(words: &Replay<'_>, threads: &[Ending]) -> Option<Told> {
+    if words.at.is_some() {
+        Some(Told::Variables)
+    } else {
+        told_of(words.stacks, words.verbose, threads)
+    }
 }
 
 /// Tells how threads ended.
@@ -95,6 +114,7 @@ pub(crate) fn tell_endings<E: Errors>(
 
 /// Tells why a command that has nothing else to tell was refused, if it was.
 pub(crate) fn tell_done<E: Errors>(done: Result<(), CommandFault>, errors: &mut E) -> Status
+    ensures status { result ≡ status_of_done done }
     ensures words { result ≢ Status.Words }
     ensures done { IsOver result → (result ≡ Status.Done) × IsOk done }
 {
@@ -111,12 +131,16 @@ pub(crate) fn tell_built<E: Errors, H: Watch>(
     watch: &H,
     errors: &mut E,
 ) -> Status
+    ensures status { result ≡ status_of_done built }
     ensures words { result ≢ Status.Words }
     ensures done { IsOver result → (result ≡ Status.Done) × IsOk built }
 {
     watch.begin(Stage::Ended);
     match built {
-        Ok(()) => Status::Done,
+        Ok(()) => {
+            tell_summary(alloc, watch, errors);
+            Status::Done
+        }
         Err(refusal) => refuse_build(alloc, &refusal, watch, errors),
     }
 }
@@ -136,8 +160,21 @@ pub(crate) fn tell_report<W: Write, E: Errors, H: Watch>(
 {
     watch.begin(Stage::Ended);
     match report {
-        Ok(report) => tell_text(report.as_slice(), out, errors),
+        Ok(report) => {
+            let status = tell_text(report.as_slice(), out, errors);
+            if matches!(status, Status::Done) {
+                tell_summary(alloc, watch, errors);
+            }
+            status
+        }
         Err(refusal) => refuse_build(alloc, &refusal, watch, errors),
+    }
+}
+
+/// Tells what a build came to and what it took, if that is wanted.
+fn tell_summary<E: Errors, H: Watch>(alloc: Global, watch: &H, errors: &mut E) {
+    if let Some(line) = watch.summary(alloc) {
+        errors.tell(line.as_str());
     }
 }
 
@@ -154,7 +191,10 @@ pub(crate) fn tell_audit<W: Write, E: Errors>(
 {
     match audit {
         Ok(audited) => match tell_text(audited.text.as_slice(), out, errors) {
-            Status::Done if !audited.is_clean => Status::Ended,
+            Status::Done if !audited.is_clean => {
+                errors.tell(audited.notes.as_str());
+                Status::Ended
+            }
             status => status,
         },
         Err(refusal) => refuse(&refusal, errors),
@@ -207,6 +247,7 @@ fn refuse_build<E: Errors, H: Watch>(
 
 /// Tells what the words gave in place of a command: help on standard output, and what is wrong with
 /// them on standard error.
+#[tactic(auto, using(crate::proofs::DoneLemmas::help_asked))]
 pub(crate) fn tell_words<W: Write, E: Errors>(
     fault: &WordsFault,
     out: &mut W,
@@ -214,6 +255,7 @@ pub(crate) fn tell_words<W: Write, E: Errors>(
 ) -> Status
     ensures refused { result ≡ Status.Refused → out.new ≡ out.old }
     ensures words { result ≡ Status.Words → out.new ≡ out.old }
+    ensures asked { (words : List (List ℕ)) → IsFaultOf words fault.now → IsNoRequest words result }
     ensures done { IsOver result → HasHelped (W.contents out.old) (W.contents out.new) result }
 {
     match fault {

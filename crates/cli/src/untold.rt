@@ -4,7 +4,7 @@ ghost use Rattle.std.specs.Prelude.{◌≡◌};
 
 use crate::class_files::class_files;
 use crate::files::contents;
-use crate::meanings::Untold;
+use crate::meanings::{NO_CLASS_FILE, Untold};
 use crate::{Building, CommandFault, Files, Request};
 use built_in::class_id::BuiltIn;
 use classfile::{ClassFile, printed};
@@ -14,6 +14,9 @@ use std::io::Write;
 
 /// What is wrong with a class that a list names.
 const DEMANDED: &str = "it has to be initialized at build time, and can't be";
+
+/// What a jar begins with, as every zip archive that is not empty.
+const JAR: &[u8] = &[b'P', b'K', 3, 4];
 
 /// Tells what was left to be told of a refusal, by what the words name. It changes no file.
 pub(crate) fn tell_untold<F: Files, E: Write>(
@@ -30,6 +33,11 @@ pub(crate) fn tell_untold<F: Files, E: Write>(
             let file = request.files().get(*place).copied();
             let file = file.unwrap_or("a class file");
             tell_line(file, *meaning, errors);
+        }
+        Untold::NoClassFile(place) => {
+            let file = request.files().get(*place).copied();
+            let file = file.unwrap_or("a class file");
+            tell_line(file, meaning_of_file(file, files), errors);
         }
         Untold::Entry(place, meaning) => match entry_in(request, *place) {
             "" => tell_line(
@@ -52,9 +60,23 @@ pub(crate) fn tell_untold<F: Files, E: Write>(
             let (name, meaning) = list_meaning(alloc, text.as_str(), building);
             tell_line(name, meaning, errors);
         }
-        Untold::Parents | Untold::Twice(_) => {
+        Untold::Parents | Untold::BuiltIn | Untold::Twice(_) => {
             tell_of_classes(alloc, untold, request.files(), files, errors);
         }
+    }
+}
+
+/// What is wrong with a file that does not begin as a class file does: it may be a jar.
+fn meaning_of_file<F: Files>(name: &str, files: &mut F) -> &'static str
+    ensures { F.holds files.new ≡ F.holds files.old }
+{
+    let Ok(bytes) = files.get(name) else {
+        return NO_CLASS_FILE;
+    };
+    if bytes.as_slice().starts_with(JAR) {
+        "a jar, and no class file: unpack it, and name the class files in it"
+    } else {
+        NO_CLASS_FILE
     }
 }
 
@@ -195,6 +217,7 @@ fn said_by(
 ) -> Result<String, AllocError> {
     match untold {
         Untold::Twice(class) => files_text(alloc, class.as_str(), names, classes),
+        Untold::BuiltIn => built_in_text(alloc, classes),
         _ => parents_text(alloc, classes),
     }
 }
@@ -230,21 +253,51 @@ fn files_text(
     Ok(text)
 }
 
-/// Which parents of classes are neither among these nor built in, each once, in the order of their names.
+/// Which of these classes the machine has of itself, in the order given.
+fn built_in_text(alloc: Global, classes: &[ClassFile]) -> Result<String, AllocError> {
+    let mut text = String::from_str(alloc, "the machine has of itself, so leave out:")?;
+    let mut before = " ";
+    for class in classes {
+        if let Some(name) = class.class_name(class.this_class())
+            && BuiltIn::named(name).is_some()
+        {
+            let name = printed(alloc, name)?;
+            write!(text, "{before}{name}")?;
+            before = ", ";
+        }
+    }
+    Ok(text)
+}
+
+/// What is known of a class by its name.
+#[derive(Clone, Copy)]
+enum Known {
+    /// A class file of it is given.
+    Given,
+    /// None is given, and it is a superclass.
+    Superclass,
+    /// None is given, and it is an interface of some class.
+    Interface,
+}
+
+/// Which parents of classes are neither among these nor built in, each once, in the order of their names, and which of
+/// them are interfaces.
 fn parents_text(alloc: Global, classes: &[ClassFile]) -> Result<String, AllocError> {
     let mut known = given_names(alloc, classes)?;
     for class in classes {
         add_parents(&mut known, class)?;
     }
     let mut text = String::from_str(alloc, "no class file is given of")?;
-    let mut is_first = true;
-    for (name, is_given) in &known {
-        if !*is_given {
-            let name = printed(alloc, name)?;
-            let before = if is_first { " " } else { ", " };
-            write!(text, "{before}{name}")?;
-            is_first = false;
-        }
+    let mut before = " ";
+    for (name, what) in &known {
+        let after = match what {
+            Known::Given => continue,
+            Known::Superclass => "",
+            Known::Interface => " (an interface)",
+        };
+        let name = printed(alloc, name)?;
+        write!(text, "{before}{name}{after}")?;
+        before = ", ";
     }
     Ok(text)
 }
@@ -253,11 +306,11 @@ fn parents_text(alloc: Global, classes: &[ClassFile]) -> Result<String, AllocErr
 fn given_names<'a>(
     alloc: Global,
     classes: &'a [ClassFile],
-) -> Result<BTreeMap<&'a [u8], bool>, AllocError> {
+) -> Result<BTreeMap<&'a [u8], Known>, AllocError> {
     let mut names = BTreeMap::new(alloc);
     for class in classes {
         if let Some(name) = class.class_name(class.this_class()) {
-            names.insert(name, true)?;
+            names.insert(name, Known::Given)?;
         }
     }
     Ok(names)
@@ -265,17 +318,31 @@ fn given_names<'a>(
 
 /// Adds the parents of a class that are neither known nor built in. They are not given.
 fn add_parents<'a>(
-    known: &mut BTreeMap<&'a [u8], bool>,
+    known: &mut BTreeMap<&'a [u8], Known>,
     class: &'a ClassFile,
 ) -> Result<(), AllocError> {
-    let superclass = [class.super_class()];
-    for constant in superclass.iter().chain(class.interfaces()) {
-        if let Some(name) = class.class_name(*constant)
-            && BuiltIn::named(name).is_none()
-            && !known.contains_key(&name)
-        {
-            known.insert(name, false)?;
-        }
+    add_parent(
+        known,
+        class.class_name(class.super_class()),
+        Known::Superclass,
+    )?;
+    for constant in class.interfaces() {
+        add_parent(known, class.class_name(*constant), Known::Interface)?;
+    }
+    Ok(())
+}
+
+/// Adds a parent that is neither known nor built in, if there is one.
+fn add_parent<'a>(
+    known: &mut BTreeMap<&'a [u8], Known>,
+    name: Option<&'a [u8]>,
+    what: Known,
+) -> Result<(), AllocError> {
+    if let Some(name) = name
+        && BuiltIn::named(name).is_none()
+        && !known.contains_key(&name)
+    {
+        known.insert(name, what)?;
     }
     Ok(())
 }

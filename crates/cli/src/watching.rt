@@ -43,6 +43,19 @@ pub trait Watch {
     /// A class was initialized, or refused.
     fn done(&self);
 
+    /// Whether more is to be told than the result.
+    fn wants_more(&self) -> bool;
+
+    /// Lines that are told once the build is over.
+    fn note(&self, lines: &str);
+
+    /// What the build came to, in words.
+    fn built(&self, totals: &str);
+
+    /// The lines that were noted, and then one on what the build came to and what it took. None where more is not
+    /// wanted, or not known.
+    fn summary(&self, alloc: Global) -> Option<String>;
+
     /// The work of the build now, in words that follow 'while'. None where it is not known or memory is refused for it.
     fn work(&self, alloc: Global) -> Option<String>;
 }
@@ -61,6 +74,18 @@ impl Watch for Unwatched {
     fn class(&self, _name: &str) {}
 
     fn done(&self) {}
+
+    fn wants_more(&self) -> bool {
+        false
+    }
+
+    fn note(&self, _lines: &str) {}
+
+    fn built(&self, _totals: &str) {}
+
+    fn summary(&self, _alloc: Global) -> Option<String> {
+        None
+    }
 
     fn work(&self, _alloc: Global) -> Option<String> {
         None

@@ -26,6 +26,10 @@ abbrev pub number : Text → Text → ValueParser → Rule
 number name default numbers =
     record (new_rule name) { long = Some name; value_names = 1; defaults = default ∷ []; parser = Some numbers }
 
+-- `--NAME N`, a number, which has no default
+abbrev pub maybe : Text → ValueParser → Rule
+maybe name numbers = record (new_rule name) { long = Some name; value_names = 1; parser = Some numbers }
+
 -- a text that is required, in a place of its own
 abbrev pub word : Text → Rule
 word id = record (new_rule id) { value_names = 1; required = true }
@@ -74,7 +78,8 @@ commands =
     (entries ∷ limit ∷ flag (codes "turns") ∷ flag (codes "stacks")
     ∷ text (codes "journal") (codes "journal") false ∷ word (codes "image") ∷ [])
     ∷ command (codes "replay")
-    (entries ∷ flag (codes "stacks") ∷ text (codes "journal") (codes "journal") true ∷ word (codes "image") ∷ [])
+    (entries ∷ flag (codes "stacks") ∷ maybe (codes "at") (vp.Unsigned 0 (10 ^ 15))
+    ∷ text (codes "journal") (codes "journal") true ∷ word (codes "image") ∷ [])
     ∷ []
 
 -- The program: one of the commands is required, and without any argument its help is shown.

@@ -1,6 +1,6 @@
 -- What command-line arguments request, by what was found of those of their command, and what else they give.
 use Rattle.std.specs.Prelude.{◌≡◌, ◌≢◌, ℕ, Bool, true, false, List, [], Option, Some, None, Ok, map, option_map}
-use Rattle.std.specs.Prelude.{codes, unwrap_or}
+use Rattle.std.specs.Prelude.{MatchOption, codes, unwrap_or}
 use Rattle.std.specs.Borrow.{Bor}
 use Rattle.std.specs.Str.Parse.{ParsesUnsigned}
 use Rattle.std.specs.declared.num.ParseIntError.{ParseIntError}
@@ -41,6 +41,11 @@ HoldsBits bits found id n =
 -- the value of an argument is a number of 64 bits
 abbrev pub HoldsNumber : List Row → Text → ℕ → Type 0
 HoldsNumber found id n = HoldsBits 64 found id n
+
+-- the value of an argument is this number of 64 bits, where it has one
+abbrev pub HoldsMaybe : List Row → Text → Option ℕ → Type 0
+HoldsMaybe found id number =
+    MatchOption number ((n : ℕ) → HoldsNumber found id n → ⊥) (λ n. HoldsNumber found id n)
 
 -- whether a flag was used
 pub record HoldsFlag (found : List Row) (id : Text) (used : Bool) : Type 0 where
@@ -104,6 +109,7 @@ pub record HoldsInspect (found : List Row) (inspect : Inspect) : Type 0 where
 pub record HoldsReplay (found : List Row) (replay : Replay) : Type 0 where
   pub entries : first_of (codes "entries") found ≡ Some replay.entries.now
   pub stacks : HoldsFlag found (codes "stacks") replay.stacks
+  pub at : HoldsMaybe found (codes "at") replay.at
   pub journal : first_of (codes "journal") found ≡ Some replay.journal.now
   pub image : first_of (codes "image") found ≡ Some replay.image.now
   pub verbose : HoldsFlag found (codes "verbose") replay.verbose

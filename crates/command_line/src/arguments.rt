@@ -1,7 +1,7 @@
 //! The kinds of arguments that commands have.
 ghost use Rattle.std.specs.Prelude.{◌≡◌, false};
 ghost use Rattle.clap.specs.Walk.{rule_of};
-ghost use Rattle.command_line.specs.CommandLine.{files, flag, number, text, word};
+ghost use Rattle.command_line.specs.CommandLine.{files, flag, maybe, number, text, word};
 ghost use Rattle.command_line.specs.steps.Described.{rule_for};
 
 use clap::builder::ValueParser;
@@ -27,6 +27,12 @@ pub(crate) enum Argument {
     Number {
         name: &'static str,
         default: &'static str,
+        numbers: ValueParser<'static>,
+        help: &'static str,
+    },
+    /// `--NAME N`, a number that has no default.
+    Maybe {
+        name: &'static str,
         numbers: ValueParser<'static>,
         help: &'static str,
     },
@@ -63,6 +69,11 @@ impl Argument {
                 numbers,
                 help,
             } => number(alloc, name, default, *numbers, help),
+            Argument::Maybe {
+                name,
+                numbers,
+                help,
+            } => maybe(alloc, name, *numbers, help),
             Argument::Word { id, value, help } => word(alloc, id, value, help),
             Argument::Files { help } => files(alloc, help),
         }
@@ -111,6 +122,17 @@ fn number<'a>(
         .long(name)
         .value_name("N")
         .default_value(default)
+        .value_parser(numbers)
+        .help(help)
+}
+
+fn maybe<'a>(alloc: Global, name: &'a str, numbers: ValueParser<'a>, help: &'a str) -> Arg<'a>
+    ensures rule { rule_of result ≡ maybe name.now numbers.entry }
+    ensures local { result.global ≡ false }
+{
+    Arg::new(alloc, name)
+        .long(name)
+        .value_name("N")
         .value_parser(numbers)
         .help(help)
 }

@@ -96,7 +96,7 @@ const COMMANDS: [Description; 9] = [
         name: "replay",
         about: REPLAY_ABOUT,
         long_about: REPLAY_LONG_ABOUT,
-        arguments: &[VERBOSE, ENTRIES, STACKS, READ_JOURNAL, RUN_IMAGE],
+        arguments: &[VERBOSE, ENTRIES, STACKS, AT, READ_JOURNAL, RUN_IMAGE],
     },
 ];
 
@@ -140,7 +140,7 @@ const LIMIT: Argument = Argument::Number {
 
 const VERBOSE: Argument = Argument::Flag {
     name: "verbose",
-    help: "Says what a refusal means in a second line",
+    help: "Says more on standard error: what a refusal means, where threads ended, what a build came to",
 };
 
 const TURNS: Argument = Argument::Flag {
@@ -151,6 +151,12 @@ const TURNS: Argument = Argument::Flag {
 const STACKS: Argument = Argument::Flag {
     name: "stacks",
     help: "Shows on standard error where each thread stands that has not returned",
+};
+
+const AT: Argument = Argument::Maybe {
+    name: "at",
+    numbers: ValueParser::Unsigned(0, 1_000_000_000_000_000),
+    help: "Ends after this many steps of the journal, and reports the stacks there, with local variables and operands",
 };
 
 const WRITTEN_JOURNAL: Argument = Argument::Text {

@@ -221,6 +221,7 @@ fn replay_of<'a>(matches: &ArgMatches<'a>) -> Option<Replay<'a>>
     Some(Replay {
         entries,
         stacks: flag_of(matches, "stacks"),
+        at: number_of(matches, "at"),
         journal,
         image,
         verbose: flag_of(matches, "verbose"),

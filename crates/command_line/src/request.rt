@@ -134,6 +134,8 @@ pub struct Replay<'a> {
     pub entries: &'a str,
     /// Whether it is shown where the threads stand.
     pub stacks: bool,
+    /// How many steps of the journal are made, where not all are.
+    pub at: Option<u64>,
     /// The name of the journal's file.
     pub journal: &'a str,
     /// The name of the image's file.

@@ -1,12 +1,13 @@
 //! Journals and their texts.
 
-ghost use Rattle.std.specs.Prelude.{◌≡◌, ◌⊎◌, ◌+◌, ◌<◌, ◌^◌, ◌++◌, ℕ, [], IfOk, IfErr, OnOk};
+ghost use Rattle.std.specs.Prelude.{◌≡◌, ◌⊎◌, ◌+◌, ◌<◌, ◌^◌, ◌++◌, ℕ, [], IfOk, IfErr, OnOk, take};
 ghost use Rattle.init_engine.specs.Schedules.{schedule_of, AreRuns};
 ghost use Rattle.journal.specs.Journals.{IsJournalOf, JournalFails, IsRun, last_in_row, line_of, lines_of};
 ghost use Rattle.journal.specs.steps.Adding.{IsAdded};
 ghost use Rattle.journal.specs.declared.fault.JournalFault.TheVariants.{Memory, Text};
 
 use crate::fault::JournalFault;
+use crate::first_steps::add_first;
 use crate::line::first_line;
 use crate::runs::add_steps;
 use std::alloc::{AllocError, Global};
@@ -98,6 +99,21 @@ impl Journal {
         match read_lines(text, &mut runs) {
             Ok(()) => Ok(Journal { runs }),
             Err(fault) => Err(fault),
+        }
+    }
+
+    /// The journal of the first steps of its schedule, at most so many.
+    ///
+    /// # Errors
+    /// `AllocError` where memory is refused.
+    pub fn first(&self, alloc: Global, steps: u64) -> Result<Journal, AllocError>
+        ensures schedule { IfOk result (λ j. schedule_of j ≡ take steps (schedule_of self.now)) }
+        ensures runs { IfOk result (λ j. AreRuns j) }
+    {
+        let mut runs = Vec::new(alloc);
+        match add_first(self.runs.as_slice(), steps, &mut runs) {
+            Ok(()) => Ok(Journal { runs }),
+            Err(error) => Err(error),
         }
     }
 

@@ -2,6 +2,7 @@
 #![tactic(auto)]
 
 mod fault;
+mod first_steps;
 mod journal_text;
 pub mod laws;
 mod line;

@@ -99,15 +99,16 @@ where
     command_holding(rt, rt.alloc(), words, &mut disk, out, errors, &Unwatched)
 }
 
-/// Does a command. A build that is refused memory tells what it was at, if words are asked for.
+/// Does a command. A build that is refused memory tells what it was at, if words are asked for, and one that is not what
+/// it came to.
 fn run_without_terminal<R, W, E>(rt: &R, words: &[&str], out: W, errors: &mut E) -> CommandEnd<W>
 where
-    R: rt::Files + AllocGlobal + Threads + Wait + Sync,
+    R: rt::Files + rt::Clock + AllocGlobal + Threads + Wait + Sync,
     W: Write + Send + Drop,
     E: Write,
 {
     if is_build(words) && words.contains(&"--verbose") {
-        let progress = ProgressLine::new(rt, io::sink());
+        let progress = ProgressLine::new(rt, io::sink(), true);
         let mut disk = Disk::new(rt);
         command_holding(rt, rt.alloc(), words, &mut disk, out, errors, &progress)
     } else {
@@ -155,7 +156,7 @@ where
     E: Write,
     P: Write + Send + Drop,
 {
-    let progress = ProgressLine::new(rt, terminal);
+    let progress = ProgressLine::new(rt, terminal, words.contains(&"--verbose"));
     let watch = || progress.tell();
     let build = || -> CommandEnd<W>
         requires handle { IsSync R.row }

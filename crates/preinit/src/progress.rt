@@ -2,10 +2,11 @@
 
 use cli::{Stage, Watch};
 use std::alloc::{AllocError, Global};
+use std::fs;
 use std::io::{self, Write};
-use std::rt::Clock;
+use std::rt::{self, Clock};
 use std::sync::{Condvar, Mutex, MutexGuard, Wait};
-use std::time::Duration;
+use std::time::{Duration, Instant};
 
 /// After how many milliseconds a build tells how far it has come.
 const PATIENCE: u64 = 2_000;
@@ -25,6 +26,10 @@ struct State<E: Write> {
     done: u64,
     /// The class that a worker began last.
     class: String,
+    /// Lines that are told once the build is over.
+    notes: String,
+    /// What the build came to, once it is known and if it is wanted.
+    totals: String,
     /// Whether a line stands on the terminal.
     told: bool,
     over: bool,
@@ -34,22 +39,31 @@ struct State<E: Write> {
 #[derive(Drop)]
 pub struct ProgressLine<'a, R, E: Write> {
     rt: &'a R,
+    /// When the build began, where it is to be told what it came to.
+    began: Option<Instant>,
     state: Mutex<State<E>>,
     ended: Condvar,
 }
 
-impl<'a, R: AllocGlobal, E: Write> ProgressLine<'a, R, E> {
-    pub fn new(rt: &'a R, to: E) -> ProgressLine<'a, R, E> {
+impl<'a, R: AllocGlobal + Clock, E: Write> ProgressLine<'a, R, E> {
+    pub fn new(rt: &'a R, to: E, is_verbose: bool) -> ProgressLine<'a, R, E> {
         let state = State {
             to,
             stage: Stage::Reading,
             done: 0,
             class: String::new(rt.alloc()),
+            notes: String::new(rt.alloc()),
+            totals: String::new(rt.alloc()),
             told: false,
             over: false,
         };
         ProgressLine {
             rt,
+            began: if is_verbose {
+                Instant::now(rt).ok()
+            } else {
+                None
+            },
             state: Mutex::new(state),
             ended: Condvar::new(),
         }
@@ -139,7 +153,41 @@ impl<E: Write> State<E> {
     }
 }
 
-impl<R: Wait + Sync, E: Write + Send> Watch for ProgressLine<'_, R, E> {
+impl<R: Clock + rt::Files + AllocGlobal, E: Write> ProgressLine<'_, R, E> {
+    /// What the build took: its time, and the most memory that the process had, where the system says so.
+    fn taken(&self, alloc: Global, began: Instant) -> Option<String> {
+        let Ok(time) = began.elapsed(self.rt) else {
+            return None;
+        };
+        let seconds = time.as_secs();
+        let hundredths = time.subsec_millis() / 10;
+        match most_memory(self.rt) {
+            Some(megabytes) => {
+                format!(in alloc; "{seconds}.{hundredths:02} s, at most {megabytes} MB").ok()
+            }
+            None => format!(in alloc; "{seconds}.{hundredths:02} s").ok(),
+        }
+    }
+}
+
+/// How many megabytes the process had at most, where the system says so.
+fn most_memory<R: rt::Files + AllocGlobal>(rt: &R) -> Option<u64> {
+    let Ok(status) = fs::read_to_string(rt, "/proc/self/status") else {
+        return None;
+    };
+    for line in status.as_str().lines() {
+        if let Some(rest) = line.strip_prefix("VmHWM:")
+            && let Some(number) = rest.trim().strip_suffix(" kB")
+            && let Ok(kilobytes) = number.trim().parse::<u64>()
+        {
+            return Some(kilobytes / 1024);
+        }
+    }
+    None
+}
+
+impl<R: Wait + Sync + Clock + rt::Files + AllocGlobal, E: Write + Send> Watch
+    for ProgressLine<'_, R, E> {
     fn watches(&self) -> bool {
         true
     }
@@ -161,6 +209,31 @@ impl<R: Wait + Sync, E: Write + Send> Watch for ProgressLine<'_, R, E> {
     fn done(&self) {
         let mut state = self.state.lock(self.rt);
         state.done = state.done.saturating_add(1);
+    }
+
+    fn wants_more(&self) -> bool {
+        self.began.is_some()
+    }
+
+    fn note(&self, lines: &str) {
+        // Where memory is refused for them, they are not told.
+        let _ = self.state.lock(self.rt).notes.push_str(lines);
+    }
+
+    fn built(&self, totals: &str) {
+        // Where memory is refused for it, it is not told.
+        let _ = self.state.lock(self.rt).totals.push_str(totals);
+    }
+
+    fn summary(&self, alloc: Global) -> Option<String> {
+        let taken = self.taken(alloc, self.began?)?;
+        let state = self.state.lock(self.rt);
+        let notes = state.notes.as_str();
+        let totals = state.totals.as_str();
+        if totals.is_empty() {
+            return String::from_str(alloc, notes).ok();
+        }
+        format!(in alloc; "{notes}{totals}; {taken}\n").ok()
     }
 
     fn work(&self, alloc: Global) -> Option<String> {

@@ -69,7 +69,7 @@ pub(crate) fn needed_text(
 }
 
 /// An object by its class and name.
-fn object_text(
+pub(crate) fn object_text(
     alloc: Global,
     program: &Program,
     shared: &Shared,

@@ -6,6 +6,7 @@ use Rattle.program.specs.Tables.{Tables}
 use Rattle.object_graph.specs.Images.{ImageTables}
 use Rattle.image_reader.specs.Starts.{IsImageStart}
 use Rattle.cli.specs.Entries.{entry_names}
+use Rattle.cli.specs.ImageBuilds.{IsReadAsBuilt}
 use Rattle.cli.specs.ImageRuns.{IsSomeTextOf}
 
 -- the image's program, and the start of these entries
@@ -18,4 +19,5 @@ pub record IsBegunFrom (I : ImageTables) (names : List (List ℕ)) (P : Tables) 
 pub record IsBegunFromBytes (bytes list : List ℕ) (P : Tables) (w : World) : Type 0 where
   pub image : ImageTables
   pub text : IsSomeTextOf bytes image
+  pub built : IsReadAsBuilt bytes image
   pub begun : IsBegunFrom image (entry_names list) P w

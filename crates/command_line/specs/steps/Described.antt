@@ -4,7 +4,7 @@ use Rattle.clap.specs.Simple.{App, Shape, app_of, new_app, new_shape, with_rule,
 use Rattle.clap.specs.Walk.{Rule}
 use Rattle.clap.specs.declared.builder.command.Command.{Command}
 use Rattle.clap.specs.declared.builder.command.Command.TheViews.{out-Command}
-use Rattle.command_line.specs.CommandLine.{files, flag, number, text, word}
+use Rattle.command_line.specs.CommandLine.{files, flag, maybe, number, text, word}
 use Rattle.command_line.specs.declared.arguments.Argument.{Argument}
 use Rattle.command_line.specs.declared.arguments.Argument.TheVariants as arguments
 use Rattle.command_line.specs.declared.commands.Description.{Description}
@@ -13,6 +13,7 @@ abbrev pub rule_for : Argument → Rule
 rule_for (arguments.Flag name help) = flag name.now
 rule_for (arguments.Text id name value is_required help) = text id.now name.now is_required
 rule_for (arguments.Number name default numbers help) = number name.now default.now numbers
+rule_for (arguments.Maybe name numbers help) = maybe name.now numbers
 rule_for (arguments.Word id value help) = word id.now
 rule_for (arguments.Files help) = files
 

@@ -1,6 +1,5 @@
-use Rattle.std.proofs.Common.{inl}
 use Rattle.cli.proofs.ImageRunLemmas.{refused_image, refused_entry_of}
-use Rattle.cli.proofs.ReadBackLemmas.{read_back}
+use Rattle.cli.proofs.ReadBackLemmas.{read_as_built}
 use Rattle.cli.proofs.image_run.image_world.Goals as goal
 
 pub returns-in-Err-world-clause-refusal : goal.returns-in-Err-world-clause-refusal
@@ -15,9 +14,7 @@ returns-in-Err-clause-refusal c = λ counted.
     c.of_image.ensures.memory c.of_image.ensures.other
 
 pub returns-in-Ok-world-clause-built : goal.returns-in-Ok-world-clause-built
-returns-in-Ok-world-clause-built c texts run_time build_time budget is =
-    let same = c.in-Ok.ensures.same is.image is.own_strings (inl is.text) in
-    read_back is.image c.in-Ok.image same texts run_time build_time budget is.of
+returns-in-Ok-world-clause-built c = read_as_built c.args.bytes.now c.in-Ok.image c.in-Ok.ensures.same
 
 pub returns-in-Ok-world-clause-image : goal.returns-in-Ok-world-clause-image
 returns-in-Ok-world-clause-image c = c.in-Ok.ensures.text

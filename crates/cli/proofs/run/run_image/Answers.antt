@@ -1,6 +1,7 @@
 use Rattle.std.proofs.Common.{inr}
 use Rattle.init_engine.specs.Turns.{world_of}
 use Rattle.cli.proofs.BeginsLemmas.{has_run_image, of_image_run}
+use Rattle.cli.proofs.LeftLemmas.{image_run_left}
 use Rattle.cli.proofs.run.run_image.Goals as goal
 
 pub returns-in-Ok-clause-refused : goal.returns-in-Ok-clause-refused
@@ -17,3 +18,9 @@ returns-in-Ok-clause-done g c = λ over.
     has_run_image (g.F.Files.holds c.args.files.now) (world_of c.in-Ok.start.world) before after new
     c.args.words.now c.in-Ok.start.program c.run_and_tell.result.0 c.in-Ok.ensures.begun (rw c.start.ensures.same at
     (c.run_and_tell.ensures.done over))
+
+pub returns-in-Ok-clause-left : goal.returns-in-Ok-clause-left
+returns-in-Ok-clause-left g c =
+    image_run_left (g.F.Files.holds c.args.files.now) (g.F.Files.holds c.start.new.files)
+    (g.F.Files.holds c.run_and_tell.new.files) c.args.words.now c.in-Ok.start.program (world_of c.in-Ok.start.world)
+    c.run_and_tell.result.0 c.start.ensures.same c.in-Ok.ensures.begun c.run_and_tell.ensures.left

@@ -1,0 +1,172 @@
+//! What a build comes to, in words.
+
+ghost use Rattle.std.specs.Prelude.{◌≡◌, ◌++◌, ◌<◌, ◌^◌, IfOk, OnOk, length};
+ghost use Rattle.std.specs.List.{count_by, flat_map, sum};
+ghost use Rattle.std.specs.String.{string_bytes};
+ghost use Rattle.image_writer.specs.ImageTexts.{region_sizes as sizes_in};
+ghost use Rattle.inspection.specs.Texts.{objects_below};
+ghost use Rattle.cli.specs.Totals.{count_text, cure_line, cures_text, is_built, is_left_by, left_by, left_text};
+ghost use Rattle.cli.specs.Totals.{totals_text};
+ghost use Rattle.cli.specs.declared.cures.TheConstants.{CURES as cures};
+
+use crate::Watch;
+use crate::cures::{CURES, Cure};
+use building::Built;
+use image_writer::region_sizes;
+use initializer_analysis::verdict::Verdict;
+use object_graph::Image;
+use std::alloc::{AllocError, Global};
+
+fn is_built(verdict: Verdict) -> bool
+    ensures { result ≡ is_built verdict }
+{
+    matches!(verdict, Verdict::Wave(_))
+}
+
+/// How many classes are initialized.
+fn built_count(verdicts: &[Verdict]) -> usize
+    ensures { result ≡ count_by is_built verdicts.now }
+{
+    let mut count = 0;
+    for place in 0..verdicts.len() {
+        if is_built(verdicts[place]) {
+            count += 1;
+        }
+    }
+    count
+}
+
+/// Whether a class is left to run time for a reason of this word.
+fn is_left_by(word: &str, verdict: Verdict) -> bool
+    ensures { result ≡ is_left_by word.now verdict }
+{
+    match verdict {
+        Verdict::Wave(_) => false,
+        Verdict::Refused(reason) => reason.word() == word,
+    }
+}
+
+/// How many classes are.
+fn left_by(verdicts: &[Verdict], word: &str) -> usize
+    ensures { result ≡ left_by verdicts.now word.now }
+{
+    let mut count = 0;
+    for place in 0..verdicts.len() {
+        if is_left_by(word, verdicts[place]) {
+            count += 1;
+        }
+    }
+    count
+}
+
+/// Adds how many classes are left by a reason, if any are.
+fn add_count(text: &mut String, word: &str, count: usize) -> Result<(), AllocError>
+    ensures { OnOk result (string_bytes text.new ≡ string_bytes text.old ++ count_text word.now count) }
+{
+    if count == 0 {
+        return Ok(());
+    }
+    write!(text, " {word} {count}")
+}
+
+/// How many classes are left by each reason.
+fn left_text(alloc: Global, verdicts: &[Verdict]) -> Result<String, AllocError>
+    ensures { IfOk result (λ text. string_bytes text ≡ flat_map (left_text verdicts.now) cures) }
+{
+    let mut text = String::new(alloc);
+    for place in 0..CURES.len() {
+        let cure = CURES[place];
+        add_count(&mut text, cure.word, left_by(verdicts, cure.word))?;
+    }
+    Ok(text)
+}
+
+/// How many objects the regions of the classes below a number hold.
+fn objects_below(image: &Image, count: u32) -> u64
+    ensures { result ≡ objects_below image.now count }
+{
+    let mut objects = 0;
+    for class in 0..count {
+        objects += u64::from(image.object_count(class));
+    }
+    objects
+}
+
+/// How many bytes some regions take together.
+fn sum_of(sizes: &[usize]) -> u128
+    requires { length sizes.now < 2 ^ 32 }
+    ensures { result ≡ sum sizes.now }
+{
+    let mut bytes = 0;
+    for place in 0..sizes.len() {
+        bytes += sizes[place] as u128;
+    }
+    bytes
+}
+
+/// How many bytes the regions of an image take in its text.
+fn bytes_of(alloc: Global, image: &Image) -> Result<u128, AllocError>
+    ensures { IfOk result (λ bytes. bytes ≡ sum (sizes_in image.now)) }
+{
+    let sizes = region_sizes(alloc, image)?;
+    Ok(sum_of(sizes.as_slice()))
+}
+
+/// What a build comes to: its classes, and how many are initialized, with how many objects and bytes; and how many are
+/// left to run time by each reason.
+fn totals_text(alloc: Global, image: &Image, verdicts: &[Verdict]) -> Result<String, AllocError>
+    ensures { IfOk result (λ text. string_bytes text ≡ totals_text image.now verdicts.now) }
+{
+    let classes = verdicts.len();
+    let built = built_count(verdicts);
+    let left = classes - built;
+    let family = image.program().family().classes();
+    let objects = objects_below(image, family.len() as u32);
+    let bytes = bytes_of(alloc, image)?;
+    let reasons = left_text(alloc, verdicts)?;
+    format!(in alloc;
+        "classes {classes} built {built} objects {objects} bytes {bytes} left {left}{reasons}"
+    )
+}
+
+/// Adds what can be done about a reason, if classes are left by it.
+fn add_cure(text: &mut String, cure: Cure, count: usize) -> Result<(), AllocError>
+    ensures { OnOk result (string_bytes text.new ≡ string_bytes text.old ++ cure_line cure count) }
+{
+    if count == 0 {
+        return Ok(());
+    }
+    let Cure { word, text: words } = cure;
+    writeln!(text, "{word}: {words}")
+}
+
+/// What can be done about the reasons that stand, a line for each.
+fn cures_text(alloc: Global, verdicts: &[Verdict]) -> Result<String, AllocError>
+    ensures { IfOk result (λ text. string_bytes text ≡ cures_text verdicts.now) }
+{
+    let mut text = String::new(alloc);
+    for place in 0..CURES.len() {
+        let cure = CURES[place];
+        add_cure(&mut text, cure, left_by(verdicts, cure.word))?;
+    }
+    Ok(text)
+}
+
+/// Tells what a build comes to, if more is to be told. Where memory is refused for it, it is not told.
+pub(crate) fn tell_totals<H: Watch>(alloc: Global, built: &Built, watch: &H) {
+    if watch.wants_more()
+        && let Ok(text) = totals_text(alloc, &built.image, built.verdicts.as_slice())
+    {
+        watch.built(text.as_str());
+    }
+}
+
+/// Tells what can be done about the reasons that stand, and what the build comes to, if more is to be told.
+pub(crate) fn tell_cures_and_totals<H: Watch>(alloc: Global, built: &Built, watch: &H) {
+    if watch.wants_more()
+        && let Ok(text) = cures_text(alloc, built.verdicts.as_slice())
+    {
+        watch.note(text.as_str());
+    }
+    tell_totals(alloc, built, watch);
+}
