@@ -1,8 +1,8 @@
 #!/usr/bin/env python3
 """Settles the classes of the cases of reports by a second interpreter, and compares what becomes of each.
 
-  bench/settling_cases.py [FILE..]     these files of questions/commands, or settling.txt, reports.txt and
-                                       long_initializers.txt
+  bench/fuzzers/settling_cases.py [FILE..]     these files of questions/commands, or settling.txt, reports.txt and
+                                               long_initializers.txt
 
 Asked are the reports of builds without lists of options. Which classes are refused by their code alone is taken from
 the answer; which class uses which, the waves, the first refused use, and what comes of a run of each initializer, with
@@ -13,7 +13,8 @@ import os
 import re
 import sys
 
-import tools_on_path
+sys.path.append(f"{os.path.dirname(os.path.realpath(__file__))}/../shared")
+import kit
 import case_files
 import class_text
 import class_model as model

@@ -1,7 +1,7 @@
 #!/usr/bin/env python3
 """Asks the JVM at hand the questions of questions/runs, and compares what it shows with their answers.
 
-  bench/jvm_cases.py [--list] [FILE..]     these files of data/runs, or all, and then the programs of data/java
+  bench/fuzzers/jvm_cases.py [--list] [FILE..]     these files of data/runs, or all, and then the programs of data/java
 
 Each question's classes are put together here, from its text, as files of version 49, whose verifier needs no stack
 maps, or of version 52 where an interface has code or is called by name. `new` gets a call of a constructor that does
@@ -24,7 +24,8 @@ import sys
 import tempfile
 from collections import Counter
 
-import tools_on_path
+sys.path.append(f"{os.path.dirname(os.path.realpath(__file__))}/../shared")
+import kit
 import case_files
 import class_text
 import java_questions

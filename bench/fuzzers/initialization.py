@@ -1,8 +1,8 @@
 #!/usr/bin/env python3
 """Makes random Java programs about class initialization, and compares what they show here and on a JVM.
 
-  bench/initialization.py --cmd 'path/to/preinit' [--mode MODE,..] [--old 'path/to/old/preinit'] [--count N] [--seed S]
-                          [--keep FOLDER]
+  bench/fuzzers/initialization.py --cmd 'path/to/preinit' [--mode MODE,..] [--old 'path/to/old/preinit'] [--count N]
+                                  [--seed S] [--keep FOLDER]
 
 Each program is a few classes, interfaces and enums: chains of superclasses, interfaces with and without default
 methods, cycles of static initializers, initializers that fail (and are caught, or not), classes that are needed again

@@ -11,11 +11,11 @@ prove() { # NAME EDIT LIBRARY..
   local crate=$1_bench edit=$2 source=$1_program.txt below
   shift 2
   mkdir -p "$work/crates/$crate/src"
-  sed "/^#/d; $edit" "$here/../crates.txt" > "$work/crates.txt"
+  sed "/^#/d; $edit" "$here/../../crates.txt" > "$work/crates.txt"
   for below in $(sed 's,[ :].*,,' "$work/crates.txt"); do
-    cp -r "$here/../crates/$below" "$work/crates/"
+    cp -r "$here/../../crates/$below" "$work/crates/"
   done
-  cp "$here/../HANDLES" "$work/"
+  cp "$here/../../HANDLES" "$work/"
   cp "$here/$source" "$work/crates/$crate/src/main.rt"
   cp "$here/files_program.txt" "$work/crates/$crate/src/files.rt"
   echo "$crate: $*" >> "$work/crates.txt"
@@ -27,7 +27,7 @@ prove() { # NAME EDIT LIBRARY..
 over() { # KIND SIZE TIMES WORD..
   local kind=$1 size=$2 times=$3 turn
   shift 3
-  python3 "$here/class_sets.py" "$kind" "$size" "$work/classes"
+  python3 "$here/../shared/class_sets.py" "$kind" "$size" "$work/classes"
   for ((turn = 0; turn < times; turn++)); do
     /usr/bin/time -f '%M KB' "$program" "$work/classes" "$@"
   done

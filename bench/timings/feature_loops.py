@@ -1,4 +1,4 @@
-"""Loops of ordinary Java, one for each feature, which `bench/features` compiles and times.
+"""Loops of ordinary Java, one for each feature, which `bench/timings/features` compiles and times.
 
 A group is a table of loops by name: what its class declares, what stands before the loop, the body of a round, and what
 is printed at the end, or else `sum`. `Self` is its class; a round has `sum`, an int, `i`, its number, and `rounds`, how

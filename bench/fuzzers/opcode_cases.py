@@ -1,7 +1,7 @@
 #!/usr/bin/env python3
 """Runs the cases of runs by a second interpreter, and tells what they have of each instruction.
 
-  bench/opcode_cases.py [FILE..]     these files of questions/runs, or all
+  bench/fuzzers/opcode_cases.py [FILE..]     these files of questions/runs, or all
 
 Each answer that says how a run ends (its steps, its ending, what is printed) is compared with the interpreter's of
 second_machine.py; a row that differs is shown. Then comes a row for each instruction of the profile: in how many
@@ -15,7 +15,8 @@ import os
 import sys
 from collections import Counter
 
-import tools_on_path
+sys.path.append(f"{os.path.dirname(os.path.realpath(__file__))}/../shared")
+import kit
 import case_files
 import class_text
 from class_text import MNEMONICS

@@ -2,7 +2,7 @@
 """Makes images that no build writes, and times how long `preinit run` takes to read each and to refuse its entry, and
 how long `preinit renew` takes to write it again.
 
-  bench/forged_images.py --cmd 'path/to/preinit'
+  bench/timings/forged_images.py --cmd 'path/to/preinit'
 
 Each is near the worst for a reader by its bytes: objects of a class with 60,000 fields without values, and of one below
 60,000 others; distinct strings that no class file has; arrays of classes that are neither given nor built in, by one

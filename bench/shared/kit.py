@@ -1,11 +1,17 @@
-"""What scripts here have in common about the kit that `rt` is of, about edits, and about bench/loops."""
+"""What scripts of bench/ have in common: where the root is, the kit that `rt` is of, edits, and the loops.
+
+A script puts this folder on its path, and what it imports from here puts that of `tools` there.
+"""
 import glob
 import importlib.machinery
 import importlib.util
 import os
 import subprocess
+import sys
 
-ROOT = os.path.dirname(os.path.dirname(os.path.realpath(__file__)))
+SHARED = os.path.dirname(os.path.realpath(__file__))
+ROOT = os.path.dirname(os.path.dirname(SHARED))
+sys.path.append(f"{ROOT}/tools")
 
 # The loops, and the further class files of one.
 LOOPS = ("Sum", "Statics", "Mixed", "Longs", "Conversions", "Switches", "Arrays", "Fields", "Calls", "VirtualCalls",

@@ -8,7 +8,6 @@ import struct
 from dataclasses import dataclass, field
 
 import class_model as model
-import tools_on_path
 from class_text import MNEMONICS, modified_utf8
 from class_model import ABSTRACT, FINAL, NATIVE, STATIC, STREAM, SYNCHRONIZED, kind_of
 
