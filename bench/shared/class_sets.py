@@ -176,38 +176,35 @@ def equal_strings(count):
     return [class_file("Main", members=members)]
 
 
-def far_references(count):
-    """A chain of so many classes, and one below it with as many references to methods of the first, all distinct."""
-    names = ["m%d" % number for number in range(count)]
-
+def far(names, declared, refer):
+    """A chain of as many classes as names, of which the first has members of these names, and a class below it that
+    refers to them all."""
     def first(pool):
-        return [], [method(pool, 0x1, name, "()V", b"\xb1") for name in names]
+        return declared(pool, names)
 
     def last(pool):
-        references(pool, 10, "Last", names, count)
+        refer(pool, "Last", names)
         return [], []
-    files = [class_file("C%d" % number, "C%d" % (number - 1) if number else OBJECT, members=None if number else first)
-             for number in range(count)]
-    files.append(class_file("Last", "C%d" % (count - 1), members=last))
-    return files
+    chain = [class_file("C%d" % number, "C%d" % (number - 1) if number else OBJECT, members=None if number else first)
+             for number in range(len(names))]
+    return [*chain, class_file("Last", "C%d" % (len(names) - 1), members=last)]
+
+
+def far_references(count):
+    """A chain of so many classes, and one below it with as many references to methods of the first, all distinct."""
+    return far(["m%d" % number for number in range(count)],
+               lambda pool, names: ([], [method(pool, 0x1, name, "()V", b"\xb1") for name in names]),
+               lambda pool, owner, names: references(pool, 10, owner, names, count))
 
 
 def far_fields(count):
     """The same with fields."""
-    names = ["f%d" % number for number in range(count)]
-
-    def first(pool):
-        return [member(0x0, pool.text(name), pool.text("I")) for name in names], []
-
-    def last(pool):
-        owner = pool.named(7, "Last")
+    def refer(pool, owner, names):
+        at = pool.named(7, owner)
         for name in names:
-            pool.pair(9, owner, pool.name_and_type(name, "I"))
-        return [], []
-    files = [class_file("C%d" % number, "C%d" % (number - 1) if number else OBJECT, members=None if number else first)
-             for number in range(count)]
-    files.append(class_file("Last", "C%d" % (count - 1), members=last))
-    return files
+            pool.pair(9, at, pool.name_and_type(name, "I"))
+    return far(["f%d" % number for number in range(count)],
+               lambda pool, names: ([member(0x0, pool.text(name), pool.text("I")) for name in names], []), refer)
 
 
 def overloads(count):

@@ -1,12 +1,9 @@
-"""What scripts of bench/ have in common: where the root is, the kit that `rt` is of, edits, and the loops.
+"""What scripts of bench/ have in common: where the root is, mutants, and the loops.
 
 A script puts this folder on its path, and what it imports from here puts that of `tools` there.
 """
 import glob
-import importlib.machinery
-import importlib.util
 import os
-import subprocess
 import sys
 
 SHARED = os.path.dirname(os.path.realpath(__file__))
@@ -17,15 +14,6 @@ sys.path.append(f"{ROOT}/tools")
 LOOPS = ("Sum", "Statics", "Mixed", "Longs", "Conversions", "Switches", "Arrays", "Fields", "Calls", "VirtualCalls",
          "InterfaceCalls", "Objects", "Exceptions", "Prints", "Interpreter", "Sort", "Sieve", "Matrix", "Fib")
 MORE_FILES = {"InterfaceCalls": ["InterfaceCallsStep"]}
-
-
-def rt():
-    """The kit's own script as a module."""
-    kit = os.path.dirname(subprocess.run(["rt", "doc"], capture_output=True, text=True, check=True).stdout.strip())
-    loader = importlib.machinery.SourceFileLoader("rt_module", f"{kit}/bin/rt")
-    made = importlib.util.module_from_spec(importlib.util.spec_from_loader("rt_module", loader))
-    loader.exec_module(made)
-    return made
 
 
 def edits_beside(crate):
