@@ -15,7 +15,7 @@ import program
 
 # Lines that open a function, and the methods of a type, in the layout of `rt fmt`.
 FUNCTION = re.compile(r" *(?:pub(?:\([\w: ]+\))? )?(?:(?:const|unsafe|ghost) )*fn (\w+)")
-METHODS = re.compile(r"impl\b.*?(\w+)(?:<[^<>]*>)? (?:where .*)?\{$")
+METHODS = re.compile(r"impl(?:<.*?>)? (?:(?:\w+::)*(\w+)(?:<.*?>)? for )?(?:\w+::)*(\w+)")
 # The last line of a check of some functions that reached a verdict.
 SOME = re.compile(r"only=(\d+) proved=(\d+)$")
 
@@ -38,7 +38,7 @@ def changed(file, old, new):
         if line == "}":
             of = ""
         elif METHODS.match(line):
-            of = f"{METHODS.match(line)[1]}::"
+            of = "{1}{0}::".format(*METHODS.match(line).groups(default=""))
         elif FUNCTION.match(line):
             inside = f"{module(file)}{of}{FUNCTION.match(line)[1]}"
         if line not in lines and inside:
