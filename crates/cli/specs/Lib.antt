@@ -24,5 +24,6 @@ pub mod Outputs
 pub mod Audits
 pub mod Explanations
 pub mod Inspections
+pub mod Totals
 pub mod Lists
 pub mod Left
