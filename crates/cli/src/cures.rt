@@ -2,15 +2,15 @@
 
 /// A reason for which classes are left to run time.
 #[derive(Clone, Copy)]
-pub(crate) struct Cure {
+pub struct Cure {
     /// The word of the reason.
-    pub(crate) word: &'static str,
+    pub word: &'static str,
     /// What can be done about it.
-    pub(crate) text: &'static str,
+    pub text: &'static str,
 }
 
 /// All of them, in the order in which a class is asked for them.
-pub(crate) const CURES: [Cure; 14] = [
+pub const CURES: [Cure; 14] = [
     Cure {
         word: "Forced",
         text: "take the class, its package or its superclass off the list of the option",

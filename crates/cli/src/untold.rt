@@ -288,16 +288,17 @@ fn parents_text(alloc: Global, classes: &[ClassFile]) -> Result<String, AllocErr
         add_parents(&mut known, class)?;
     }
     let mut text = String::from_str(alloc, "no class file is given of")?;
-    let mut before = " ";
+    let mut is_first = true;
     for (name, what) in &known {
         let after = match what {
             Known::Given => continue,
             Known::Superclass => "",
             Known::Interface => " (an interface)",
         };
+        let before = if is_first { " " } else { ", " };
         let name = printed(alloc, name)?;
         write!(text, "{before}{name}{after}")?;
-        before = ", ";
+        is_first = false;
     }
     Ok(text)
 }
