@@ -1,5 +1,5 @@
 -- What a build comes to, in words.
-use Rattle.std.specs.Prelude.{ℕ, zero, suc, ◌-◌, List, [], ◌++◌, Bool, true, false, codes, decimal, length}
+use Rattle.std.specs.Prelude.{ℕ, ◌-◌, ◌==◌, List, [], ◌++◌, Bool, true, false, codes, decimal, if◌then◌else◌, length}
 use Rattle.std.specs.List.{count_by, flat_map, sum}
 use Rattle.std.specs.Str.{bytes_eq}
 use Rattle.initializer_analysis.specs.Words.{reason_word}
@@ -26,8 +26,7 @@ left_by verdicts word = count_by (is_left_by word) verdicts
 
 -- so many classes, after the word of their reason; nothing where there are none
 abbrev pub count_text : List ℕ → ℕ → List ℕ
-count_text word zero = []
-count_text word (suc n) = codes " " ++ (word ++ (codes " " ++ decimal (suc n)))
+count_text word n = if n == 0 then [] else codes " " ++ (word ++ (codes " " ++ decimal n))
 
 abbrev pub left_text : List Verdict → Cure → List ℕ
 left_text verdicts cure = count_text cure.word.now (left_by verdicts cure.word.now)
@@ -41,11 +40,11 @@ totals_text I verdicts = codes "classes " ++ (decimal (length verdicts)
     ++ (codes " left " ++ (decimal (length verdicts - count_by is_built verdicts)
     ++ flat_map (left_text verdicts) CURES)))))))))
 
--- what can be done about a reason, for which so many classes are left
-abbrev pub cure_line : Cure → ℕ → List ℕ
-cure_line cure zero = []
-cure_line cure (suc n) = cure.word.now ++ (codes ": " ++ (cure.text.now ++ codes "\n"))
+-- what can be done about a reason, where classes are left by it
+abbrev pub cure_line : List Verdict → Cure → List ℕ
+cure_line verdicts cure =
+    if left_by verdicts cure.word.now == 0 then [] else cure.word.now ++ (codes ": " ++ (cure.text.now ++ codes "\n"))
 
 -- A line for each reason that stands.
 abbrev pub cures_text : List Verdict → List ℕ
-cures_text verdicts = flat_map (λ cure. cure_line cure (left_by verdicts cure.word.now)) CURES
+cures_text verdicts = flat_map (cure_line verdicts) CURES

@@ -1,12 +1,11 @@
 //! What a build comes to, in words.
 
-ghost use Rattle.std.specs.Prelude.{◌≡◌, ◌++◌, ◌<◌, ◌^◌, IfOk, OnOk, length};
+ghost use Rattle.std.specs.Prelude.{◌≡◌, ◌++◌, ◌<◌, ◌≤◌, ◌^◌, IfOk, OnOk, length};
 ghost use Rattle.std.specs.List.{count_by, flat_map, sum};
 ghost use Rattle.std.specs.String.{string_bytes};
 ghost use Rattle.image_writer.specs.ImageTexts.{region_sizes as sizes_in};
 ghost use Rattle.inspection.specs.Texts.{objects_below};
-ghost use Rattle.cli.specs.Totals.{count_text, cure_line, cures_text, is_built, is_left_by, left_by, left_text};
-ghost use Rattle.cli.specs.Totals.{totals_text};
+ghost use Rattle.cli.specs.Totals.{cure_line, cures_text, is_built, is_left_by, left_by, left_text, totals_text};
 ghost use Rattle.cli.specs.declared.cures.TheConstants.{CURES as cures};
 
 use crate::Watch;
@@ -25,7 +24,8 @@ fn is_built(verdict: Verdict) -> bool
 
 /// How many classes are initialized.
 fn built_count(verdicts: &[Verdict]) -> usize
-    ensures { result ≡ count_by is_built verdicts.now }
+    ensures count { result ≡ count_by is_built verdicts.now }
+    ensures within { result ≤ length verdicts.now }
 {
     let mut count = 0;
     for place in 0..verdicts.len() {
@@ -60,9 +60,11 @@ fn left_by(verdicts: &[Verdict], word: &str) -> usize
 }
 
 /// Adds how many classes are left by a reason, if any are.
-fn add_count(text: &mut String, word: &str, count: usize) -> Result<(), AllocError>
-    ensures { OnOk result (string_bytes text.new ≡ string_bytes text.old ++ count_text word.now count) }
+fn add_left(text: &mut String, verdicts: &[Verdict], cure: Cure) -> Result<(), AllocError>
+    ensures { OnOk result (string_bytes text.new ≡ string_bytes text.old ++ left_text verdicts.now cure) }
 {
+    let word = cure.word;
+    let count = left_by(verdicts, word);
     if count == 0 {
         return Ok(());
     }
@@ -75,8 +77,7 @@ fn left_text(alloc: Global, verdicts: &[Verdict]) -> Result<String, AllocError>
 {
     let mut text = String::new(alloc);
     for place in 0..CURES.len() {
-        let cure = CURES[place];
-        add_count(&mut text, cure.word, left_by(verdicts, cure.word))?;
+        add_left(&mut text, verdicts, CURES[place])?;
     }
     Ok(text)
 }
@@ -130,13 +131,13 @@ fn totals_text(alloc: Global, image: &Image, verdicts: &[Verdict]) -> Result<Str
 }
 
 /// Adds what can be done about a reason, if classes are left by it.
-fn add_cure(text: &mut String, cure: Cure, count: usize) -> Result<(), AllocError>
-    ensures { OnOk result (string_bytes text.new ≡ string_bytes text.old ++ cure_line cure count) }
+fn add_cure(text: &mut String, verdicts: &[Verdict], cure: Cure) -> Result<(), AllocError>
+    ensures { OnOk result (string_bytes text.new ≡ string_bytes text.old ++ cure_line verdicts.now cure) }
 {
-    if count == 0 {
+    let Cure { word, text: words } = cure;
+    if left_by(verdicts, word) == 0 {
         return Ok(());
     }
-    let Cure { word, text: words } = cure;
     writeln!(text, "{word}: {words}")
 }
 
@@ -146,8 +147,7 @@ fn cures_text(alloc: Global, verdicts: &[Verdict]) -> Result<String, AllocError>
 {
     let mut text = String::new(alloc);
     for place in 0..CURES.len() {
-        let cure = CURES[place];
-        add_cure(&mut text, cure, left_by(verdicts, cure.word))?;
+        add_cure(&mut text, verdicts, CURES[place])?;
     }
     Ok(text)
 }
