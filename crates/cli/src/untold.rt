@@ -299,7 +299,7 @@ fn parents_text(alloc: Global, classes: &[ClassFile]) -> Result<String, AllocErr
         add_parents(&mut known, class)?;
     }
     let mut text = String::from_str(alloc, "no class file is given of")?;
-    let mut is_first = true;
+    let mut before = " ";
     for (name, what) in &known {
         if let Some(after) = what.in_words() {
             let name = printed(alloc, name)?;
