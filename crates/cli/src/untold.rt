@@ -299,12 +299,13 @@ fn parents_text(alloc: Global, classes: &[ClassFile]) -> Result<String, AllocErr
         add_parents(&mut known, class)?;
     }
     let mut text = String::from_str(alloc, "no class file is given of")?;
-    let mut before = " ";
+    let mut is_first = true;
     for (name, what) in &known {
         if let Some(after) = what.in_words() {
+            let before = if is_first { " " } else { ", " };
             let name = printed(alloc, name)?;
             write!(text, "{before}{name}{after}")?;
-            before = ", ";
+            is_first = false;
         }
     }
     Ok(text)
