@@ -61,7 +61,7 @@ fn left_by(verdicts: &[Verdict], word: &str) -> usize
 
 /// Adds how many classes are left by a reason, if any are.
 fn add_left(text: &mut String, verdicts: &[Verdict], word: &str) -> Result<(), AllocError>
-    ensures { OnOk result (string_bytes text.new ≡ string_bytes text.old ++ left_text verdicts.now word) }
+    ensures { OnOk result (string_bytes text.new ≡ string_bytes text.old ++ left_text verdicts.now word.now) }
 {
     let count = left_by(verdicts, word);
     if count == 0 {
@@ -72,7 +72,7 @@ fn add_left(text: &mut String, verdicts: &[Verdict], word: &str) -> Result<(), A
 
 /// How many classes are left by each reason.
 fn left_text(alloc: Global, verdicts: &[Verdict]) -> Result<String, AllocError>
-    ensures { IfOk result (λ text. string_bytes text ≡ flat_map (left_text verdicts.now) reasons) }
+    ensures { IfOk result (λ text. string_bytes text ≡ flat_map (λ word. left_text verdicts.now word.now) reasons) }
 {
     let mut text = String::new(alloc);
     for place in 0..REASONS.len() {

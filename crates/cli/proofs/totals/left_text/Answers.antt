@@ -7,7 +7,7 @@ use Rattle.cli.proofs.totals.left_text.Goals as goal
 
 pub loop-place-preserved : goal.loop-place-preserved
 loop-place-preserved c =
-    piece_more (left_text c.args.verdicts.now) REASONS c.loop-place.place _ (string_bytes c.loop-place.text)
+    piece_more (λ word. left_text c.args.verdicts.now word.now) REASONS c.loop-place.place _ (string_bytes c.loop-place.text)
     (string_bytes c.add_left.new.text) c.loop-place-test.true
     (get_or_default REASONS c.loop-place.place _ _ c.loop-place-test.true) c.loop-place.invariant
     c.in_ok-add_left.ensures

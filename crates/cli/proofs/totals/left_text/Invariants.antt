@@ -5,4 +5,4 @@ use Rattle.cli.specs.declared.cures.TheConstants.{REASONS}
 use Rattle.cli.proofs.totals.left_text.Given as goal
 
 abbrev pub invariant-loop-place : goal.invariant-loop-place
-invariant-loop-place l = string_bytes l.text ≡ flat_map (left_text l.verdicts) (take l.place REASONS)
+invariant-loop-place l = string_bytes l.text ≡ flat_map (λ word. left_text l.verdicts word.now) (take l.place REASONS)
