@@ -1,5 +1,6 @@
 -- What a build comes to, in words.
 use Rattle.std.specs.Prelude.{ℕ, ◌-◌, ◌==◌, List, [], ◌++◌, Bool, true, false, codes, decimal, if◌then◌else◌, length}
+use Rattle.std.specs.Borrow.{Bor}
 use Rattle.std.specs.List.{count_by, flat_map, sum}
 use Rattle.std.specs.Str.{bytes_eq}
 use Rattle.initializer_analysis.specs.Words.{reason_word}
@@ -8,8 +9,7 @@ use Rattle.initializer_analysis.specs.declared.verdict.Verdict.TheVariants.{Wave
 use Rattle.object_graph.specs.Images.{ImageTables}
 use Rattle.image_writer.specs.ImageTexts.{region_sizes}
 use Rattle.inspection.specs.Texts.{objects_below}
-use Rattle.cli.specs.declared.cures.Cure.{Cure}
-use Rattle.cli.specs.declared.cures.TheConstants.{CURES}
+use Rattle.cli.specs.declared.cures.TheConstants.{REASONS}
 
 abbrev pub is_built : Verdict → Bool
 is_built (Wave n) = true
@@ -28,8 +28,8 @@ left_by verdicts word = count_by (is_left_by word) verdicts
 abbrev pub count_text : List ℕ → ℕ → List ℕ
 count_text word n = if n == 0 then [] else codes " " ++ (word ++ (codes " " ++ decimal n))
 
-abbrev pub left_text : List Verdict → Cure → List ℕ
-left_text verdicts cure = count_text cure.word.now (left_by verdicts cure.word.now)
+abbrev pub left_text : List Verdict → Bor (List ℕ) → List ℕ
+left_text verdicts word = count_text word.now (left_by verdicts word.now)
 
 -- How many classes, objects and bytes of regions, and how many classes are left by each reason.
 abbrev pub totals_text : ImageTables → List Verdict → List ℕ
@@ -38,13 +38,4 @@ totals_text I verdicts = codes "classes " ++ (decimal (length verdicts)
     ++ (codes " objects " ++ (decimal (objects_below I (length I.program.family))
     ++ (codes " bytes " ++ (decimal (sum (region_sizes I))
     ++ (codes " left " ++ (decimal (length verdicts - count_by is_built verdicts)
-    ++ flat_map (left_text verdicts) CURES)))))))))
-
--- what can be done about a reason, where classes are left by it
-abbrev pub cure_line : List Verdict → Cure → List ℕ
-cure_line verdicts cure =
-    if left_by verdicts cure.word.now == 0 then [] else cure.word.now ++ (codes ": " ++ (cure.text.now ++ codes "\n"))
-
--- A line for each reason that stands.
-abbrev pub cures_text : List Verdict → List ℕ
-cures_text verdicts = flat_map (cure_line verdicts) CURES
+    ++ flat_map (left_text verdicts) REASONS)))))))))

@@ -126,13 +126,13 @@ pub(crate) fn start<R: Threads + Sync, F: Files>(
     ensures same { F.holds files.new ≡ F.holds files.old }
 {
     match get(alloc, words.image, files) {
-        Ok(bytes) => start_by_several(rt, alloc, words.entries, bytes, may_tell_stacks(words)),
+        Ok(bytes) => start_by_several(rt, alloc, words.entries, bytes, wants_stacks(words)),
         Err(refusal) => Err(refusal),
     }
 }
 
-/// Whether it may be told where the threads of a run stand.
-fn may_tell_stacks(words: &Run<'_>) -> bool {
+/// Whether the stacks of a run are told, all of them or, of threads that end badly, the innermost place.
+fn wants_stacks(words: &Run<'_>) -> bool {
     words.stacks || words.verbose
 }
 

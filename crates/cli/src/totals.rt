@@ -5,11 +5,11 @@ ghost use Rattle.std.specs.List.{count_by, flat_map, sum};
 ghost use Rattle.std.specs.String.{string_bytes};
 ghost use Rattle.image_writer.specs.ImageTexts.{region_sizes as sizes_in};
 ghost use Rattle.inspection.specs.Texts.{objects_below};
-ghost use Rattle.cli.specs.Totals.{cure_line, cures_text, is_built, is_left_by, left_by, left_text, totals_text};
-ghost use Rattle.cli.specs.declared.cures.TheConstants.{CURES as cures};
+ghost use Rattle.cli.specs.Totals.{is_built, is_left_by, left_by, left_text, totals_text};
+ghost use Rattle.cli.specs.declared.cures.TheConstants.{REASONS as reasons};
 
 use crate::Watch;
-use crate::cures::{CURES, Cure};
+use crate::cures::{CURES, REASONS};
 use building::Built;
 use image_writer::region_sizes;
 use initializer_analysis::verdict::Verdict;
@@ -60,10 +60,9 @@ fn left_by(verdicts: &[Verdict], word: &str) -> usize
 }
 
 /// Adds how many classes are left by a reason, if any are.
-fn add_left(text: &mut String, verdicts: &[Verdict], cure: Cure) -> Result<(), AllocError>
-    ensures { OnOk result (string_bytes text.new ≡ string_bytes text.old ++ left_text verdicts.now cure) }
+fn add_left(text: &mut String, verdicts: &[Verdict], word: &str) -> Result<(), AllocError>
+    ensures { OnOk result (string_bytes text.new ≡ string_bytes text.old ++ left_text verdicts.now word) }
 {
-    let word = cure.word;
     let count = left_by(verdicts, word);
     if count == 0 {
         return Ok(());
@@ -73,11 +72,11 @@ fn add_left(text: &mut String, verdicts: &[Verdict], cure: Cure) -> Result<(), A
 
 /// How many classes are left by each reason.
 fn left_text(alloc: Global, verdicts: &[Verdict]) -> Result<String, AllocError>
-    ensures { IfOk result (λ text. string_bytes text ≡ flat_map (left_text verdicts.now) cures) }
+    ensures { IfOk result (λ text. string_bytes text ≡ flat_map (left_text verdicts.now) reasons) }
 {
     let mut text = String::new(alloc);
-    for place in 0..CURES.len() {
-        add_left(&mut text, verdicts, CURES[place])?;
+    for place in 0..REASONS.len() {
+        add_left(&mut text, verdicts, REASONS[place])?;
     }
     Ok(text)
 }
@@ -131,23 +130,23 @@ fn totals_text(alloc: Global, image: &Image, verdicts: &[Verdict]) -> Result<Str
 }
 
 /// Adds what can be done about a reason, if classes are left by it.
-fn add_cure(text: &mut String, verdicts: &[Verdict], cure: Cure) -> Result<(), AllocError>
-    ensures { OnOk result (string_bytes text.new ≡ string_bytes text.old ++ cure_line verdicts.now cure) }
-{
-    let Cure { word, text: words } = cure;
+fn add_cure(
+    text: &mut String,
+    verdicts: &[Verdict],
+    word: &str,
+    cure: &str,
+) -> Result<(), AllocError> {
     if left_by(verdicts, word) == 0 {
         return Ok(());
     }
-    writeln!(text, "{word}: {words}")
+    writeln!(text, "{word}: {cure}")
 }
 
 /// What can be done about the reasons that stand, a line for each.
-fn cures_text(alloc: Global, verdicts: &[Verdict]) -> Result<String, AllocError>
-    ensures { IfOk result (λ text. string_bytes text ≡ cures_text verdicts.now) }
-{
+fn cures_text(alloc: Global, verdicts: &[Verdict]) -> Result<String, AllocError> {
     let mut text = String::new(alloc);
-    for place in 0..CURES.len() {
-        add_cure(&mut text, verdicts, CURES[place])?;
+    for place in 0..REASONS.len() {
+        add_cure(&mut text, verdicts, REASONS[place], CURES[place])?;
     }
     Ok(text)
 }
