@@ -1,6 +1,5 @@
 -- What a build comes to, in words.
 use Rattle.std.specs.Prelude.{ℕ, ◌-◌, ◌==◌, List, [], ◌++◌, Bool, true, false, codes, decimal, if◌then◌else◌, length}
-use Rattle.std.specs.Borrow.{Bor}
 use Rattle.std.specs.List.{count_by, flat_map, sum}
 use Rattle.std.specs.Str.{bytes_eq}
 use Rattle.initializer_analysis.specs.Words.{reason_word}
@@ -28,8 +27,12 @@ left_by verdicts word = count_by (is_left_by word) verdicts
 abbrev pub count_text : List ℕ → ℕ → List ℕ
 count_text word n = if n == 0 then [] else codes " " ++ (word ++ (codes " " ++ decimal n))
 
-abbrev pub left_text : List Verdict → Bor (List ℕ) → List ℕ
-left_text verdicts word = count_text word.now (left_by verdicts word.now)
+abbrev pub left_text : List Verdict → List ℕ → List ℕ
+left_text verdicts word = count_text word (left_by verdicts word)
+
+-- this for each reason
+abbrev pub lefts_text : List Verdict → List ℕ
+lefts_text verdicts = flat_map (λ word. left_text verdicts word.now) REASONS
 
 -- How many classes, objects and bytes of regions, and how many classes are left by each reason.
 abbrev pub totals_text : ImageTables → List Verdict → List ℕ
@@ -38,4 +41,4 @@ totals_text I verdicts = codes "classes " ++ (decimal (length verdicts)
     ++ (codes " objects " ++ (decimal (objects_below I (length I.program.family))
     ++ (codes " bytes " ++ (decimal (sum (region_sizes I))
     ++ (codes " left " ++ (decimal (length verdicts - count_by is_built verdicts)
-    ++ flat_map (left_text verdicts) REASONS)))))))))
+    ++ lefts_text verdicts)))))))))

@@ -1,12 +1,11 @@
 //! What a build comes to, in words.
 
 ghost use Rattle.std.specs.Prelude.{◌≡◌, ◌++◌, ◌<◌, ◌≤◌, ◌^◌, IfOk, OnOk, length};
-ghost use Rattle.std.specs.List.{count_by, flat_map, sum};
+ghost use Rattle.std.specs.List.{count_by, sum};
 ghost use Rattle.std.specs.String.{string_bytes};
 ghost use Rattle.image_writer.specs.ImageTexts.{region_sizes as sizes_in};
 ghost use Rattle.inspection.specs.Texts.{objects_below};
-ghost use Rattle.cli.specs.Totals.{is_built, is_left_by, left_by, left_text, totals_text};
-ghost use Rattle.cli.specs.declared.cures.TheConstants.{REASONS as reasons};
+ghost use Rattle.cli.specs.Totals.{is_built, is_left_by, left_by, left_text, lefts_text, totals_text};
 
 use crate::Watch;
 use crate::cures::{CURES, REASONS};
@@ -61,7 +60,7 @@ fn left_by(verdicts: &[Verdict], word: &str) -> usize
 
 /// Adds how many classes are left by a reason, if any are.
 fn add_left(text: &mut String, verdicts: &[Verdict], word: &str) -> Result<(), AllocError>
-    ensures { OnOk result (string_bytes text.new ≡ string_bytes text.old ++ left_text verdicts.now word) }
+    ensures { OnOk result (string_bytes text.new ≡ string_bytes text.old ++ left_text verdicts.now word.now) }
 {
     let count = left_by(verdicts, word);
     if count == 0 {
@@ -71,8 +70,8 @@ fn add_left(text: &mut String, verdicts: &[Verdict], word: &str) -> Result<(), A
 }
 
 /// How many classes are left by each reason.
-fn left_text(alloc: Global, verdicts: &[Verdict]) -> Result<String, AllocError>
-    ensures { IfOk result (λ text. string_bytes text ≡ flat_map (left_text verdicts.now) reasons) }
+fn lefts_text(alloc: Global, verdicts: &[Verdict]) -> Result<String, AllocError>
+    ensures { IfOk result (λ text. string_bytes text ≡ lefts_text verdicts.now) }
 {
     let mut text = String::new(alloc);
     for place in 0..REASONS.len() {
@@ -123,7 +122,7 @@ fn totals_text(alloc: Global, image: &Image, verdicts: &[Verdict]) -> Result<Str
     let family = image.program().family().classes();
     let objects = objects_below(image, family.len() as u32);
     let bytes = bytes_of(alloc, image)?;
-    let reasons = left_text(alloc, verdicts)?;
+    let reasons = lefts_text(alloc, verdicts)?;
     format!(in alloc;
         "classes {classes} built {built} objects {objects} bytes {bytes} left {left}{reasons}"
     )
