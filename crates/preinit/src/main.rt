@@ -11,11 +11,12 @@ ghost use Rattle.std.specs.Thread.{IsSend, IsSync};
 
 use cli::{CommandEnd, CommandFault, Status, Unwatched, command_holding};
 use disk::Disk;
-use progress::ProgressLine;
+use progress::{ProgressLine, taken};
 use std::io::{self, ErrorKind, IsTerminal, Write};
 use std::process::ExitCode;
 use std::sync::Wait;
 use std::thread::{self, Threads};
+use std::time::Instant;
 use std::{env, mem, rt};
 
 /// Why there was no command to do.
@@ -108,12 +109,41 @@ where
     E: Write,
 {
     if is_build(words) && words.contains(&"--verbose") {
+        let began = Instant::now(rt).ok();
         let progress = ProgressLine::new(rt, io::sink(), true);
         let mut disk = Disk::new(rt);
-        command_holding(rt, rt.alloc(), words, &mut disk, out, errors, &progress)
+        let end = command_holding(rt, rt.alloc(), words, &mut disk, out, errors, &progress);
+        tell_taken(rt, &progress, began, errors);
+        end
     } else {
         run_unwatched(rt, words, out, errors)
     }
+}
+
+/// Ends the line on what a build came to, if it was told, with what it took.
+fn tell_taken<R, P, E>(
+    rt: &R,
+    progress: &ProgressLine<'_, R, P>,
+    began: Option<Instant>,
+    errors: &mut E,
+)
+where
+    R: rt::Files + rt::Clock + AllocGlobal + Wait,
+    P: Write,
+    E: Write,
+{
+    if !progress.is_summed() {
+        return;
+    }
+    let text = match began {
+        Some(began) => taken(rt, began),
+        None => None,
+    };
+    // A failure of standard error is ignored.
+    let _ = match text {
+        Some(text) => writeln!(errors, "{text}"),
+        None => writeln!(errors),
+    };
 }
 
 /// Whether the words are those of a command that builds.
@@ -156,6 +186,7 @@ where
     E: Write,
     P: Write + Send + Drop,
 {
+    let began = Instant::now(rt).ok();
     let progress = ProgressLine::new(rt, terminal, words.contains(&"--verbose"));
     let watch = || progress.tell();
     let build = || -> CommandEnd<W>
@@ -169,6 +200,7 @@ where
         end
     };
     let ((), end) = thread::join(rt, watch, build);
+    tell_taken(rt, &progress, began, errors);
     end
 }
 

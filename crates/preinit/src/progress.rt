@@ -30,6 +30,8 @@ struct State<E: Write> {
     notes: String,
     /// What the build came to, once it is known and if it is wanted.
     totals: String,
+    /// Whether that was handed out.
+    summed: bool,
     /// Whether a line stands on the terminal.
     told: bool,
     over: bool,
@@ -39,13 +41,13 @@ struct State<E: Write> {
 #[derive(Drop)]
 pub struct ProgressLine<'a, R, E: Write> {
     rt: &'a R,
-    /// When the build began, where it is to be told what it came to.
-    began: Option<Instant>,
+    /// Whether it is to be told what the build came to.
+    is_verbose: bool,
     state: Mutex<State<E>>,
     ended: Condvar,
 }
 
-impl<'a, R: AllocGlobal + Clock, E: Write> ProgressLine<'a, R, E> {
+impl<'a, R: AllocGlobal, E: Write> ProgressLine<'a, R, E> {
     pub fn new(rt: &'a R, to: E, is_verbose: bool) -> ProgressLine<'a, R, E> {
         let state = State {
             to,
@@ -54,16 +56,13 @@ impl<'a, R: AllocGlobal + Clock, E: Write> ProgressLine<'a, R, E> {
             class: String::new(rt.alloc()),
             notes: String::new(rt.alloc()),
             totals: String::new(rt.alloc()),
+            summed: false,
             told: false,
             over: false,
         };
         ProgressLine {
             rt,
-            began: if is_verbose {
-                Instant::now(rt).ok()
-            } else {
-                None
-            },
+            is_verbose,
             state: Mutex::new(state),
             ended: Condvar::new(),
         }
@@ -135,6 +134,14 @@ impl<E: Write> State<E> {
 
     /// What the build is at, in words that follow 'while'. Of several classes at work it is the one that was begun
     /// last.
+    fn summary(&mut self, alloc: Global) -> Result<String, AllocError> {
+        let notes = self.notes.as_str();
+        let totals = self.totals.as_str();
+        let text = format!(in alloc; "{notes}{totals}")?;
+        self.summed = !self.totals.as_str().is_empty();
+        Ok(text)
+    }
+
     fn work(&self, alloc: Global) -> Result<String, AllocError> {
         match self.stage {
             Stage::Reading => String::from_str(alloc, "reading class files"),
@@ -153,20 +160,27 @@ impl<E: Write> State<E> {
     }
 }
 
-impl<R: Clock + rt::Files + AllocGlobal, E: Write> ProgressLine<'_, R, E> {
-    /// What the build took: its time, and the most memory that the process had, where the system says so.
-    fn taken(&self, alloc: Global, began: Instant) -> Option<String> {
-        let Ok(time) = began.elapsed(self.rt) else {
-            return None;
-        };
-        let seconds = time.as_secs();
-        let hundredths = time.subsec_millis() / 10;
-        match most_memory(self.rt) {
-            Some(megabytes) => {
-                format!(in alloc; "{seconds}.{hundredths:02} s, at most {megabytes} MB").ok()
-            }
-            None => format!(in alloc; "{seconds}.{hundredths:02} s").ok(),
+impl<R: Wait, E: Write> ProgressLine<'_, R, E> {
+    /// Whether it was handed out what the build came to.
+    pub fn is_summed(&self) -> bool {
+        self.state.lock(self.rt).summed
+    }
+}
+
+/// What a build took that began then, for the end of the line on what it came to: its time, and the most memory that the
+/// process had, where the system says so.
+pub fn taken<R: Clock + rt::Files + AllocGlobal>(rt: &R, began: Instant) -> Option<String> {
+    let Ok(time) = began.elapsed(rt) else {
+        return None;
+    };
+    let alloc = rt.alloc();
+    let seconds = time.as_secs();
+    let hundredths = time.subsec_millis() / 10;
+    match most_memory(rt) {
+        Some(megabytes) => {
+            format!(in alloc; "; {seconds}.{hundredths:02} s, at most {megabytes} MB").ok()
         }
+        None => format!(in alloc; "; {seconds}.{hundredths:02} s").ok(),
     }
 }
 
@@ -186,8 +200,7 @@ fn most_memory<R: rt::Files + AllocGlobal>(rt: &R) -> Option<u64> {
     None
 }
 
-impl<R: Wait + Sync + Clock + rt::Files + AllocGlobal, E: Write + Send> Watch
-    for ProgressLine<'_, R, E> {
+impl<R: Wait + Sync, E: Write + Send> Watch for ProgressLine<'_, R, E> {
     fn watches(&self) -> bool {
         true
     }
@@ -212,7 +225,7 @@ impl<R: Wait + Sync + Clock + rt::Files + AllocGlobal, E: Write + Send> Watch
     }
 
     fn wants_more(&self) -> bool {
-        self.began.is_some()
+        self.is_verbose
     }
 
     fn note(&self, lines: &str) {
@@ -226,14 +239,7 @@ impl<R: Wait + Sync + Clock + rt::Files + AllocGlobal, E: Write + Send> Watch
     }
 
     fn summary(&self, alloc: Global) -> Option<String> {
-        let taken = self.taken(alloc, self.began?)?;
-        let state = self.state.lock(self.rt);
-        let notes = state.notes.as_str();
-        let totals = state.totals.as_str();
-        if totals.is_empty() {
-            return String::from_str(alloc, notes).ok();
-        }
-        format!(in alloc; "{notes}{totals}; {taken}\n").ok()
+        self.state.lock(self.rt).summary(alloc).ok()
     }
 
     fn work(&self, alloc: Global) -> Option<String> {
