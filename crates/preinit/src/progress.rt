@@ -132,8 +132,7 @@ impl<E: Write> State<E> {
         self.to.flush()
     }
 
-    /// What the build is at, in words that follow 'while'. Of several classes at work it is the one that was begun
-    /// last.
+    /// The lines that were noted, and what the build came to, which are handed out now.
     fn summary(&mut self, alloc: Global) -> Result<String, AllocError> {
         let notes = self.notes.as_str();
         let totals = self.totals.as_str();
@@ -142,6 +141,8 @@ impl<E: Write> State<E> {
         Ok(text)
     }
 
+    /// What the build is at, in words that follow 'while'. Of several classes at work it is the one that was begun
+    /// last.
     fn work(&self, alloc: Global) -> Result<String, AllocError> {
         match self.stage {
             Stage::Reading => String::from_str(alloc, "reading class files"),
