@@ -49,3 +49,4 @@ pub mod TheDefaultLemmas
 pub mod SelectionLemmas
 pub mod SelectableLemmas
 pub mod SpecialsLemmas
+pub mod SystemOutLemmas

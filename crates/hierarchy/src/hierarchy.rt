@@ -7,7 +7,7 @@ ghost use Rattle.hierarchy.specs.steps.NearestMembers.{AreNearest};
 ghost use Rattle.std.specs.List.{Contains};
 ghost use Rattle.hierarchy.specs.steps.Reaches.{Nearest, classes_noted};
 ghost use Rattle.hierarchy.specs.steps.Tops.{IsTop};
-ghost use Rattle.loading.specs.Families.{IsFamily, superclass_in, superclasses_in};
+ghost use Rattle.loading.specs.Families.{IsFamily, substitute_in, superclass_in, superclasses_in};
 ghost use Rattle.hierarchy.specs.steps.HierarchyTables.{wanted_in};
 ghost use Rattle.hierarchy.specs.steps.MemberTables.{IsTableOf};
 ghost use Rattle.built_in.specs.Keys.{NameAndType};
@@ -16,6 +16,7 @@ ghost use Rattle.hierarchy.specs.steps.MemberKeys.{IsLookup, AreNumbers};
 ghost use Rattle.hierarchy.specs.MemberLookup.{flags_in, is_inherited, key_in, member_flags};
 ghost use Rattle.hierarchy.specs.MemberNames.{text_in, named_in};
 
+use crate::beyond::Beyond;
 use crate::member::DeclaredMember;
 use crate::member_key::MemberKey;
 use crate::member_name::MemberName;
@@ -39,6 +40,7 @@ pub struct Hierarchy {
     family: Family,
     table: MemberTable,
     nearest: NearestMembers,
+    beyond: Beyond,
 }
 
 // By hand, since a derived one is proved anew wherever one is let go.
@@ -48,6 +50,7 @@ impl Drop for Hierarchy {
             family: _,
             table: _,
             nearest: _,
+            beyond: _,
         } = self;
     }
 }
@@ -72,11 +75,15 @@ impl Hierarchy {
         ensures { IfOk result (λ h. h.family ≡ family) }
     {
         match tables_of(alloc, &family) {
-            Ok((table, nearest)) => Ok(Hierarchy {
-                family,
-                table,
-                nearest,
-            }),
+            Ok((table, nearest)) => match Beyond::of_family(alloc, &family) {
+                Ok(beyond) => Ok(Hierarchy {
+                    family,
+                    table,
+                    nearest,
+                    beyond,
+                }),
+                Err(error) => Err(error),
+            },
             Err(error) => Err(error),
         }
     }
@@ -86,6 +93,13 @@ impl Hierarchy {
         ensures { result.now ≡ self.now.family }
     {
         &self.family
+    }
+
+    /// The number of a built-in class's substitute.
+    pub(crate) fn substitute(&self, class: BuiltIn) -> Option<u32>
+        ensures { result ≡ substitute_in self.now.family class }
+    {
+        self.family.substitute(class)
     }
 
     /// The text of a number, or no bytes.

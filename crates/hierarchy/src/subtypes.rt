@@ -4,7 +4,7 @@ ghost use Rattle.std.specs.Prelude.{◌≡◌, ◌==◌};
 ghost use Rattle.std.specs.List.{list_any};
 ghost use Rattle.hierarchy.specs.Initialization.{given_superclasses};
 ghost use Rattle.hierarchy.specs.Subclasses.{is_above};
-ghost use Rattle.hierarchy.specs.Subtypes.{is_below, is_class_below, is_given_below, is_built_in_class_below};
+ghost use Rattle.hierarchy.specs.Subtypes.{is_below, are_below, is_reached, is_above_all, is_class_below, is_given_below, is_built_in_class_below};
 ghost use Rattle.hierarchy.specs.Subtypes.{is_array_below, is_array_type_below, is_element_below, is_object_element};
 ghost use Rattle.hierarchy.specs.Subtypes.{is_unknown_below};
 ghost use Rattle.hierarchy.specs.Subtypes.{is_object, class_of_element, type_code, is_end_below, end_of_chain};
@@ -19,6 +19,13 @@ impl Hierarchy {
     /// Whether a class is another one, or below it: whether its objects can be cast to that.
     pub fn is_below(&self, class: ClassId, other: ClassId) -> bool
         ensures { result ≡ is_below self.now.family class other }
+    {
+        self.are_below(self.family().replaced(class), self.family().replaced(other))
+    }
+
+    /// Whether a class is another one, or below it, where substitutes stand in the place of built-in classes.
+    fn are_below(&self, class: ClassId, other: ClassId) -> bool
+        ensures { result ≡ are_below self.now.family class other }
     {
         match class {
             ClassId::Array(array) => self.is_array_below(array, other),
@@ -42,10 +49,42 @@ impl Hierarchy {
         ensures { result ≡ is_given_below self.now.family class other }
     {
         match other {
-            ClassId::Given(other) => class == other || self.is_above(class, other),
+            ClassId::Given(other) => class == other || self.is_reached(class, other),
             ClassId::BuiltIn(other) => self.is_top_below(class, other),
             ClassId::Array(_) => false,
         }
+    }
+
+    /// Whether the second of two given classes is reached from the first by steps up. The first step to a substitute is
+    /// to that of the built-in class at the end of its superclasses, or to one beyond a substitute above it.
+    fn is_reached(&self, class: u32, other: u32) -> bool
+        ensures { result ≡ is_reached self.now.family class other }
+    {
+        self.is_above(class, other) || self.is_beyond(class, other)
+    }
+
+    /// Whether the second of two given classes is reached by way of a substitute.
+    fn is_beyond(&self, class: u32, other: u32) -> bool {
+        BuiltIn::all().iter().any(|b| self.is_substitute_below(*b, other)
+            && self.is_directly_below(class, *b))
+    }
+
+    /// Whether a given class ends at a built-in one, or is its substitute or below that by given parents.
+    fn is_directly_below(&self, class: u32, other: BuiltIn) -> bool {
+        if self.top(class) == Some(other) {
+            return true;
+        }
+        match self.substitute(other) {
+            Some(given) => class == given || self.is_above(class, given),
+            None => false,
+        }
+    }
+
+    /// Whether a given class is above all classes, as Object's substitute is it or below it.
+    fn is_above_all(&self, class: u32) -> bool
+        ensures { result ≡ is_above_all self.now.family class }
+    {
+        self.is_substitute_below(BuiltIn::Object, class)
     }
 
     /// Whether the second of two given classes stands above the first.
@@ -111,7 +150,7 @@ impl Hierarchy {
         match other {
             ClassId::Array(other) => self.is_array_type_below(array, other),
             ClassId::BuiltIn(other) => is_object(other),
-            ClassId::Given(_) => false,
+            ClassId::Given(other) => self.is_above_all(other),
         }
     }
 
@@ -121,7 +160,7 @@ impl Hierarchy {
     {
         match array.dimensions.cmp(&other.dimensions) {
             Ordering::Equal => self.is_element_below(array.element, other.element),
-            Ordering::Greater => is_object_element(other.element),
+            Ordering::Greater => self.is_object_element(other.element),
             Ordering::Less => false,
         }
     }
@@ -131,11 +170,32 @@ impl Hierarchy {
         ensures { result ≡ is_element_below self.now.family element other }
     {
         if let ElementType::Unknown(name) = element {
-            return is_unknown_below(name, other);
+            return self.is_unknown_below(name, other);
         }
         match (class_of(element), class_of(other)) {
             (Some(class), Some(other)) => self.is_class_below(class, other),
             (None, None) => type_code(element) == type_code(other),
+            _ => false,
+        }
+    }
+
+    /// Whether a class that is neither given nor built in is an element type, or below it.
+    fn is_unknown_below(&self, name: u32, other: ElementType) -> bool
+        ensures { result ≡ is_unknown_below self.now.family name other }
+    {
+        match other {
+            ElementType::Unknown(other) => name == other,
+            other => self.is_object_element(other),
+        }
+    }
+
+    /// Whether an element type is the class Object, or above it.
+    fn is_object_element(&self, element: ElementType) -> bool
+        ensures { result ≡ is_object_element self.now.family element }
+    {
+        match element {
+            ElementType::BuiltIn(class) => is_object(class),
+            ElementType::Given(class) => self.is_above_all(class),
             _ => false,
         }
     }
@@ -148,26 +208,6 @@ fn is_built_in_class_below(class: BuiltIn, other: ClassId) -> bool
     match other {
         ClassId::BuiltIn(other) => class.is_below(other),
         ClassId::Given(_) | ClassId::Array(_) => false,
-    }
-}
-
-/// Whether a class that is neither given nor built in is an element type, or below it.
-fn is_unknown_below(name: u32, other: ElementType) -> bool
-    ensures { result ≡ is_unknown_below name other }
-{
-    match other {
-        ElementType::Unknown(other) => name == other,
-        other => is_object_element(other),
-    }
-}
-
-/// Whether an element type is the class Object.
-fn is_object_element(element: ElementType) -> bool
-    ensures { result ≡ is_object_element element }
-{
-    match element {
-        ElementType::BuiltIn(class) => is_object(class),
-        _ => false,
     }
 }
 
