@@ -50,3 +50,6 @@ pub mod SelectionLemmas
 pub mod SelectableLemmas
 pub mod SpecialsLemmas
 pub mod SystemOutLemmas
+pub mod StepsUpLemmas
+pub mod BeyondLemmas
+pub mod BeyondGraphLemmas

@@ -1,6 +1,6 @@
 -- What is reached by steps up is what the list of it has, also where steps lead in circles.
-use Rattle.std.proofs.Common.{◌≡◌, ℕ, zero, suc, ◌<◌, ◌≤◌, ◌⊎◌, inl, inr, Bool, true, false, eqb, List, [], ◌∷◌, ◌++◌}
-use Rattle.std.proofs.Common.{Option, Some, None, length, get_or, refl, sym, ap, subst, ◌∙◌, arith, option_to_list}
+use Rattle.std.proofs.Common.{◌≡◌, ◌↔◌, ℕ, zero, suc, ◌<◌, ◌≤◌, ◌⊎◌, inl, inr, Bool, true, false, eqb, List, [], ◌∷◌, ◌++◌}
+use Rattle.std.proofs.Common.{Option, Some, None, length, get_or, refl, sym, ap, subst, arith, option_to_list}
 use Rattle.std.specs.List.{Contains, IsDistinct, flat_map, list_any}
 use Rattle.std.proofs.lemmas.Bool.{ne_eqb}
 use Rattle.std.proofs.lemmas.List.Elements.{Contains-get_or, Contains-append_left, Contains-append_right}
@@ -11,14 +11,14 @@ use Rattle.built_in.specs.declared.class_id.BuiltIn.{BuiltIn}
 use Rattle.loading.specs.Families.{Family, AreParentsWithin, parents_in, substitute_in}
 use Rattle.loading.proofs.SubstitutesLemmas.{substitute_within}
 use Rattle.graph.specs.Rows.{Rows, successors_of}
-use Rattle.graph.specs.Reaches.{Reaches, itself, along}
+use Rattle.graph.specs.Reaches.{Reaches}
 use Rattle.hierarchy.specs.Subtypes.{built_in_above, is_reached, reached_within, substitutes_in, up_in}
-use Rattle.hierarchy.specs.steps.Beyond.{IsGraphUp}
+use Rattle.hierarchy.specs.steps.Beyond.{IsGraphUp, IsUp}
 use Rattle.hierarchy.proofs.FirstsLemmas.{has_tells}
 use Rattle.hierarchy.proofs.InitializationLemmas.{listed}
 use Rattle.hierarchy.proofs.SubclassesLemmas.{first_of, later_of}
 
-none_in : {A : Type 0} {y : A} → Contains [] y → ⊥
+pub none_in : {A : Type 0} {y : A} → Contains [] y → ⊥
 none_in (k, small, e) = omega arith
 
 -- ---- lists put together
@@ -139,30 +139,48 @@ module _ (edges : ℕ → List ℕ) where
 -- ---- the list of what is reached
 
 module _ (family : Family) where
+  -- a step in front, and one way behind another
+  pub before : {c d e : ℕ} → Contains (up_in family c) d → IsUp family d e → IsUp family c e
+  before edge IsUp.itself = IsUp.along IsUp.itself edge
+  before edge (IsUp.along up last) = IsUp.along (before edge up) last
+
+  pub up_further : {c d e : ℕ} → IsUp family c d → IsUp family d e → IsUp family c e
+  up_further up IsUp.itself = up
+  up_further up (IsUp.along more last) = IsUp.along (up_further up more) last
+
+  here : (n c : ℕ) → Contains (reached_within n family c) c
+  here zero c = first_of c []
+  here (suc n) c = first_of c (flat_map (reached_within n family) (up_in family c))
+
   way_listed : (n : ℕ) {c e : ℕ} {ds : List ℕ} → Way (up_in family) c ds e → length ds ≤ n
       → Contains (reached_within n family c) e
   way_listed zero (one edge) short = absurd (omega arith)
   way_listed zero (more edge way) short = absurd (omega arith)
   way_listed (suc n) {c} (one {d = d} edge) short =
-      in_flat_map (λ d. d ∷ reached_within n family d) (up_in family c) d d edge
-      (first_of d (reached_within n family d))
+      later_of c (flat_map (reached_within n family) (up_in family c)) d
+      (in_flat_map (reached_within n family) (up_in family c) d d edge (here n d))
   way_listed (suc n) {c} (more {d = d} {e = e} edge way) short =
-      in_flat_map (λ d. d ∷ reached_within n family d) (up_in family c) d e edge
-      (later_of d (reached_within n family d) e (way_listed n way (omega arith)))
+      later_of c (flat_map (reached_within n family) (up_in family c)) e
+      (in_flat_map (reached_within n family) (up_in family c) d e edge (way_listed n way (omega arith)))
 
-  listed_way : (n c y : ℕ) → Contains (reached_within n family c) y → (ds : List ℕ) × Way (up_in family) c ds y
-  listed_way zero c y has = absurd (none_in has)
-  listed_way (suc n) c y has =
-      let from = from_flat_map (λ d. d ∷ reached_within n family d) (up_in family c) y has in
-      up from.0 from.1 from.2 (listed_way n from.0 y)
-    where
-      up : (d : ℕ) → Contains (up_in family c) d → Contains (d ∷ reached_within n family d) y
-          → (Contains (reached_within n family d) y → (ds : List ℕ) × Way (up_in family) d ds y)
-          → (ds : List ℕ) × Way (up_in family) c ds y
-      up d edge (zero, small, at) rest =
-          (d ∷ [], subst (λ (z : ℕ). Way (up_in family) c (d ∷ []) z) at (one edge))
-      up d edge (suc k, small, at) rest =
-          let r = rest (k, omega arith, at) in (d ∷ r.0, more edge r.1)
+  listed_up : (n c y : ℕ) → Contains (reached_within n family c) y → IsUp family c y
+  listed_up zero c y (zero, small, at) = subst (λ (z : ℕ). IsUp family c z) at IsUp.itself
+  listed_up zero c y (suc k, small, at) = absurd (omega arith)
+  listed_up (suc n) c y (zero, small, at) = subst (λ (z : ℕ). IsUp family c z) at IsUp.itself
+  listed_up (suc n) c y (suc k, small, at) =
+      let rest : Contains (flat_map (reached_within n family) (up_in family c)) y = (k, omega arith, at) in
+      let from = from_flat_map (reached_within n family) (up_in family c) y rest in
+      before from.1 (listed_up n from.0 y from.2)
+
+  way_to : {c e : ℕ} → IsUp family c e → (c ≡ e) ⊎ ((ds : List ℕ) × Way (up_in family) c ds e)
+  way_to IsUp.itself = inl refl
+  way_to {c} {e} (IsUp.along {d = m} up edge) = elim (way_to up) [
+    | inl same ↦ inr (
+      e ∷ [],
+      subst (λ (z : ℕ). Way (up_in family) z (e ∷ []) e) (sym same) (one edge),
+    )
+    | inr (ds, way) ↦ inr (ds ++ e ∷ [], way_on (up_in family) way edge)
+  ]
 
   module _ (within : AreParentsWithin family) where
     way_tells : {c e : ℕ} {ds : List ℕ} → Way (up_in family) c ds e → is_reached family c e ≡ true
@@ -173,37 +191,28 @@ module _ (family : Family) where
         (λ q has. way_within (up_in family) (length family) (up_within family within) q r.1 (listed family q r.0 has)) in
         (has_tells e (reached_within (length family) family c)).1 (way_listed (length family) r.1 few)
 
-    -- ---- as the graph of steps up has it
+    -- what is reached is what steps lead to
+    pub up_tells : (c e : ℕ) → (is_reached family c e ≡ true) ↔ IsUp family c e
+    up_tells c e = (
+      (λ is. listed_up (length family) c e ((has_tells e (reached_within (length family) family c)).0 is)),
+      (λ up. elim (way_to up) [
+        | inl same ↦ (has_tells e (reached_within (length family) family c)).1
+            (subst (λ (z : ℕ). Contains (reached_within (length family) family c) z) same (here (length family) c))
+        | inr (ds, way) ↦ way_tells way
+      ]),
+    )
 
-    module _ (graph : Rows) (up : IsGraphUp family graph) where
-      step_of : (c d : ℕ) → Contains (successors_of graph c) d → Contains (up_in family c) d
-      step_of c d = subst (λ (ds : List ℕ). Contains ds d) (up.rows c)
+    -- and what its graph reaches
+    module _ (graph : Rows) (rows : IsGraphUp family graph) where
+      path_up : {c e : ℕ} → Reaches graph c e → IsUp family c e
+      path_up Reaches.itself = IsUp.itself
+      path_up {e = e} (Reaches.along {a = m} path edge) =
+          IsUp.along (path_up path) (subst (λ (ds : List ℕ). Contains ds e) (rows.rows m) edge)
 
-      edge_of : (c d : ℕ) → Contains (up_in family c) d → Contains (successors_of graph c) d
-      edge_of c d = subst (λ (ds : List ℕ). Contains ds d) (sym (up.rows c))
+      up_path : {c e : ℕ} → IsUp family c e → Reaches graph c e
+      up_path IsUp.itself = Reaches.itself
+      up_path {e = e} (IsUp.along {d = m} up edge) =
+          Reaches.along (up_path up) (subst (λ (ds : List ℕ). Contains ds e) (sym (rows.rows m)) edge)
 
-      path_way : {c e : ℕ} → Reaches graph c e → (c ≡ e) ⊎ ((ds : List ℕ) × Way (up_in family) c ds e)
-      path_way itself = inl refl
-      path_way {c} {e} (along {a = m} path edge) = elim (path_way path) [
-        | inl same ↦ inr (
-          e ∷ [],
-          subst (λ (z : ℕ). Way (up_in family) z (e ∷ []) e) (sym same) (one (step_of m e edge)),
-        )
-        | inr (ds, way) ↦ inr (ds ++ e ∷ [], way_on (up_in family) way (step_of m e edge))
-      ]
-
-      pub reached_tells : (c e : ℕ) → Reaches graph c e → (c ≡ e) ⊎ (is_reached family c e ≡ true)
-      reached_tells c e path = elim (path_way path) [
-        | inl same ↦ inl same
-        | inr (ds, way) ↦ inr (way_tells way)
-      ]
-
-      way_path : {c e : ℕ} {ds : List ℕ} (a : ℕ) → Reaches graph a c → Way (up_in family) c ds e → Reaches graph a e
-      way_path {c} a front (one {d = d} edge) = along front (edge_of c d edge)
-      way_path {c} a front (more {d = d} edge way) = way_path a (along front (edge_of c d edge)) way
-
-      pub tells_reached : (c e : ℕ) → is_reached family c e ≡ true → Reaches graph c e
-      tells_reached c e is =
-          let has = (has_tells e (reached_within (length family) family c)).0 is in
-          let way = listed_way (length family) c e has in
-          way_path c itself way.1
+      pub graph_tells : (c e : ℕ) → Reaches graph c e ↔ (is_reached family c e ≡ true)
+      graph_tells c e = ((λ path. (up_tells c e).1 (path_up path)), (λ is. up_path ((up_tells c e).0 is)))

@@ -1,7 +1,7 @@
 -- Which classes are below which, as checkcast, instanceof, aastore and handlers ask it (JVMS 6.5; 4.10.1.2).
-use Rattle.std.specs.Prelude.{ℕ, zero, suc, ◌==◌, nat_lt, Bool, false, ◌||◌, ◌&&◌, List, [], ◌∷◌, ◌++◌, length, Option}
+use Rattle.std.specs.Prelude.{ℕ, zero, suc, ◌==◌, nat_lt, Bool, false, ◌&&◌, List, [], ◌∷◌, ◌++◌, length, Option}
 use Rattle.std.specs.Prelude.{Some, None, option_to_list, if◌then◌else◌}
-use Rattle.std.specs.List.{filter, flat_map, list_any}
+use Rattle.std.specs.List.{flat_map, list_any}
 use Rattle.built_in.specs.ClassNames.{all_built_in}
 use Rattle.built_in.specs.Subclasses.{superclasses_of_built_in, is_same_built_in, is_built_in_below}
 use Rattle.built_in.specs.declared.class_id.ArrayType.{ArrayType}
@@ -45,44 +45,47 @@ has_slots_of family other (class.Array a) = false
 abbrev pub substitutes_in : Family → List BuiltIn → List ℕ
 substitutes_in family bs = flat_map (λ b. option_to_list (substitute_in family b)) bs
 
--- whether a given class is the substitute of a built-in one
-abbrev pub is_substitute_in : Family → ℕ → BuiltIn → Bool
-is_substitute_in family c b = list_any (λ d. d == c) (option_to_list (substitute_in family b))
-
 abbrev pub built_in_of : Option Superclass → List BuiltIn
 built_in_of (Some (super.BuiltIn b)) = b ∷ []
 built_in_of (Some (super.Given d)) = []
 built_in_of None = []
 
+abbrev pub built_in_above_if : Option ℕ → ℕ → BuiltIn → List BuiltIn
+built_in_above_if None c b = []
+built_in_above_if (Some s) c b = if s == c then superclasses_of_built_in b else []
+
 -- The built-in classes directly above a given one: its superclass, and those above the class whose substitute it is.
 abbrev pub built_in_above : Family → ℕ → List BuiltIn
 built_in_above family c = built_in_of (superclass_in family c)
-    ++ flat_map superclasses_of_built_in (filter (is_substitute_in family c) all_built_in)
+    ++ flat_map (λ b. built_in_above_if (substitute_in family b) c b) all_built_in
 
 -- One step up from a given class: to a parent, or to the substitute of such a built-in class.
 abbrev pub up_in : Family → ℕ → List ℕ
 up_in family c = parents_in family c ++ substitutes_in family (built_in_above family c)
 
--- what is reached by at most so many steps
+-- a given class and what is reached from it by at most so many steps
 abbrev pub reached_within : ℕ → Family → ℕ → List ℕ
-reached_within zero family c = []
-reached_within (suc n) family c = flat_map (λ d. d ∷ reached_within n family d) (up_in family c)
+reached_within zero family c = c ∷ []
+reached_within (suc n) family c = c ∷ flat_map (reached_within n family) (up_in family c)
 
--- no shortest way up has more steps than there are classes
+-- No shortest way up has more steps than there are classes.
 abbrev pub is_reached : Family → ℕ → ℕ → Bool
 is_reached family c d = list_any (λ e. e == d) (reached_within (length family) family c)
+
+abbrev pub is_reached_from : Family → Option ℕ → ℕ → Bool
+is_reached_from family None d = false
+is_reached_from family (Some s) d = is_reached family s d
+
+-- whether a built-in class's substitute is a given class, or below it
+abbrev pub is_above_built_in : Family → BuiltIn → ℕ → Bool
+is_above_built_in family b d = is_reached_from family (substitute_in family b) d
 
 -- ---- given classes
 
 abbrev pub is_given_below : Family → ℕ → ClassId → Bool
-is_given_below family c (class.Given d) = c == d || is_reached family c d
+is_given_below family c (class.Given d) = is_reached family c d
 is_given_below family c (class.BuiltIn other) = is_end_below other (end_of_chain family c)
 is_given_below family c (class.Array other) = false
-
--- whether Object's substitute is a given class or below it, and so all classes are
-abbrev pub is_above_all : Family → ℕ → Bool
-is_above_all family d =
-    list_any (λ o. is_given_below family o (class.Given d)) (option_to_list (substitute_in family builtins.Object))
 
 -- ---- classes that are no array classes
 
@@ -128,7 +131,7 @@ is_object b = is_same_built_in b builtins.Object
 
 abbrev pub is_object_element : Family → ElementType → Bool
 is_object_element family (element.BuiltIn b) = is_object b
-is_object_element family (element.Given d) = is_above_all family d
+is_object_element family (element.Given d) = is_above_built_in family builtins.Object d
 is_object_element family _ = false
 
 -- A class that is neither given nor built in is below itself and Object: there is no file to say what else.
@@ -152,7 +155,7 @@ is_array_type_below family a other =
 abbrev pub is_array_below : Family → ArrayType → ClassId → Bool
 is_array_below family a (class.Array other) = is_array_type_below family a other
 is_array_below family a (class.BuiltIn b) = is_object b
-is_array_below family a (class.Given d) = is_above_all family d
+is_array_below family a (class.Given d) = is_above_built_in family builtins.Object d
 
 -- ---- all classes
 

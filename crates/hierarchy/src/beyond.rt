@@ -1,11 +1,13 @@
 //! What is reached from the substitutes of the built-in classes by steps up, where the library is there: a class is below
 //! a built-in one where it is below that one's substitute.
 
-ghost use Rattle.std.specs.Prelude.{◌≡◌, ℕ, ◌<◌, ◌++◌, length, IfOk, OnOk};
-ghost use Rattle.std.specs.List.{All};
+ghost use Rattle.std.specs.Prelude.{◌≡◌, ℕ, ◌<◌, ◌++◌, [], length, option_to_list, IfOk, OnOk};
 ghost use Rattle.graph.specs.Rows.{successors_of};
-ghost use Rattle.hierarchy.specs.Subtypes.{substitutes_in, up_in};
-ghost use Rattle.hierarchy.specs.steps.Beyond.{AreReached, IsGraphUp};
+ghost use Rattle.std.specs.List.{All, flat_map};
+ghost use Rattle.built_in.specs.ClassNames.{all_built_in};
+ghost use Rattle.loading.specs.Families.{Family as Classes, substitute_in};
+ghost use Rattle.hierarchy.specs.Subtypes.{is_above_built_in, substitutes_in, up_in};
+ghost use Rattle.hierarchy.specs.steps.Beyond.{AreReached, AreReachedAt, IsGraphUp, above_substitute, beyond_superclass};
 
 use built_in::class_id::BuiltIn;
 use graph::{Graph, Visited, reach};
@@ -30,20 +32,20 @@ impl Beyond {
     pub(crate) fn of_family(alloc: Global, family: &Family) -> Result<Beyond, AllocError>
         ensures { IfOk result (AreReached family.now) }
     {
-        let mut reached = Vec::new(alloc);
-        if family.substitute(BuiltIn::Object).is_some() {
-            let graph = graph_up(alloc, family)?;
-            for class in BuiltIn::all() {
-                if let Some(substitute) = family.substitute(*class) {
-                    reached.push(reach(alloc, &graph, substitute as usize)?)?;
-                }
-            }
+        if family.substitute(BuiltIn::Object).is_none() {
+            return Ok(Beyond {
+                reached: Vec::new(alloc),
+            });
         }
+        let graph = graph_up(alloc, family)?;
+        let reached = all_reached(alloc, &graph, family)?;
         Ok(Beyond { reached })
     }
 
-    /// Whether a class's substitute, which it has, is a given class or below it.
-    pub(crate) fn is_below(&self, class: BuiltIn, other: u32) -> bool {
+    /// Whether a class's substitute is a given class, or below it.
+    pub(crate) fn is_below(&self, class: BuiltIn, other: u32) -> bool
+        ensures { (family : Classes) → AreReached family self.now → result ≡ is_above_built_in family class other }
+    {
         match self.reached.get(class.number()) {
             Some(reached) => reached.has(other as usize),
             None => false,
@@ -51,50 +53,19 @@ impl Beyond {
     }
 }
 
-/// Adds an edge from a class to the substitute of each of some built-in classes.
-fn add_substitutes(
-    graph: &mut Graph,
-    family: &Family,
-    class: usize,
-    above: &[BuiltIn],
-) -> Result<(), AllocError>
-    requires class { class < length graph.old }
-    requires count { length graph.old ≡ length family.now }
-    ensures len { length graph.new ≡ length graph.old }
-    ensures own { OnOk result
-        (successors_of graph.new class ≡ successors_of graph.old class ++ substitutes_in family.now above.now) }
-    ensures others { (c : ℕ) → (c ≡ class → ⊥) → successors_of graph.new c ≡ successors_of graph.old c }
+/// What each substitute reaches along the graph of steps up, by the numbers of the built-in classes.
+fn all_reached(alloc: Global, graph: &Graph, family: &Family) -> Result<Vec<Visited>, AllocError>
+    requires { IsGraphUp family.now graph.now }
+    ensures { IfOk result (λ reached. AreReachedAt family.now reached.items) }
 {
-    for built_in in above {
-        if let Some(substitute) = family.substitute(*built_in) {
-            graph.add(class, substitute as usize)?;
+    let mut reached = Vec::new(alloc);
+    for class in BuiltIn::all() {
+        match family.substitute(*class) {
+            Some(substitute) => reached.push(reach(alloc, graph, substitute as usize)?)?,
+            None => return Ok(Vec::new(alloc)),
         }
     }
-    Ok(())
-}
-
-/// Adds an edge from a class to each of its given parents, and to the substitute of its built-in superclass.
-fn add_parents(graph: &mut Graph, family: &Family, class: u32) -> Result<(), AllocError> {
-    let from = class as usize;
-    for interface in family.interfaces(class) {
-        graph.add(from, *interface as usize)?;
-    }
-    match family.superclass(class) {
-        Some(Superclass::Given(above)) => graph.add(from, above as usize),
-        Some(Superclass::BuiltIn(above)) => add_substitutes(graph, family, from, &[above]),
-        None => Ok(()),
-    }
-}
-
-/// Adds an edge from a class to each that is one step up.
-fn add_steps(graph: &mut Graph, family: &Family, class: u32) -> Result<(), AllocError> {
-    add_parents(graph, family, class)?;
-    for built_in in BuiltIn::all() {
-        if family.substitute(*built_in) == Some(class) {
-            add_substitutes(graph, family, class as usize, built_in.superclasses())?;
-        }
-    }
-    Ok(())
+    Ok(reached)
 }
 
 /// The graph of steps up.
@@ -107,4 +78,124 @@ fn graph_up(alloc: Global, family: &Family) -> Result<Graph, AllocError>
         add_steps(&mut graph, family, class as u32)?;
     }
     Ok(graph)
+}
+
+/// Adds an edge from a class to each that is one step up.
+fn add_steps(graph: &mut Graph, family: &Family, class: u32) -> Result<(), AllocError>
+    requires class { class < length graph.old }
+    requires count { length graph.old ≡ length family.now }
+    ensures len { length graph.new ≡ length graph.old }
+    ensures own { OnOk result (successors_of graph.new class ≡ successors_of graph.old class ++ up_in family.now class) }
+    ensures others { (c : ℕ) → (c ≡ class → ⊥) → successors_of graph.new c ≡ successors_of graph.old c }
+{
+    add_interfaces(graph, class, family.interfaces(class))?;
+    add_superclass(graph, family, class)?;
+    add_above(graph, family, class)
+}
+
+/// Adds an edge from a class to each of its direct superinterfaces.
+fn add_interfaces(graph: &mut Graph, class: u32, interfaces: &[u32]) -> Result<(), AllocError>
+    requires class { class < length graph.old }
+    requires within { All (λ d. d < length graph.old) interfaces.now }
+    ensures len { length graph.new ≡ length graph.old }
+    ensures own { OnOk result (successors_of graph.new class ≡ successors_of graph.old class ++ interfaces.now) }
+    ensures others { (c : ℕ) → (c ≡ class → ⊥) → successors_of graph.new c ≡ successors_of graph.old c }
+{
+    for interface in interfaces {
+        graph.add(class as usize, *interface as usize)?;
+    }
+    Ok(())
+}
+
+/// Adds an edge from a class to its superclass, or to the substitute of that.
+fn add_superclass(graph: &mut Graph, family: &Family, class: u32) -> Result<(), AllocError>
+    requires class { class < length graph.old }
+    requires count { length graph.old ≡ length family.now }
+    ensures len { length graph.new ≡ length graph.old }
+    ensures own { OnOk result
+        (successors_of graph.new class ≡ successors_of graph.old class ++ beyond_superclass family.now class) }
+    ensures others { (c : ℕ) → (c ≡ class → ⊥) → successors_of graph.new c ≡ successors_of graph.old c }
+{
+    match family.superclass(class) {
+        Some(Superclass::Given(above)) => graph.add(class as usize, above as usize),
+        Some(Superclass::BuiltIn(above)) => add_substitute(graph, family, class, above),
+        None => Ok(()),
+    }
+}
+
+/// Adds an edge from a substitute to that of each class above the one that it stands for.
+fn add_above(graph: &mut Graph, family: &Family, class: u32) -> Result<(), AllocError>
+    requires class { class < length graph.old }
+    requires count { length graph.old ≡ length family.now }
+    ensures len { length graph.new ≡ length graph.old }
+    ensures own { OnOk result (successors_of graph.new class
+        ≡ successors_of graph.old class ++ flat_map (above_substitute family.now class) all_built_in) }
+    ensures others { (c : ℕ) → (c ≡ class → ⊥) → successors_of graph.new c ≡ successors_of graph.old c }
+{
+    for built_in in BuiltIn::all() {
+        add_above_one(graph, family, class, *built_in)?;
+    }
+    Ok(())
+}
+
+/// Adds these edges, if the class is the substitute of this one.
+fn add_above_one(
+    graph: &mut Graph,
+    family: &Family,
+    class: u32,
+    built_in: BuiltIn,
+) -> Result<(), AllocError>
+    requires class { class < length graph.old }
+    requires count { length graph.old ≡ length family.now }
+    ensures len { length graph.new ≡ length graph.old }
+    ensures own { OnOk result (successors_of graph.new class
+        ≡ successors_of graph.old class ++ above_substitute family.now class built_in) }
+    ensures others { (c : ℕ) → (c ≡ class → ⊥) → successors_of graph.new c ≡ successors_of graph.old c }
+{
+    match family.substitute(built_in) {
+        Some(substitute) if substitute == class => {
+            add_substitutes(graph, family, class, built_in.superclasses())
+        }
+        _ => Ok(()),
+    }
+}
+
+/// Adds an edge from a class to the substitute of each of some built-in classes.
+fn add_substitutes(
+    graph: &mut Graph,
+    family: &Family,
+    class: u32,
+    above: &[BuiltIn],
+) -> Result<(), AllocError>
+    requires class { class < length graph.old }
+    requires count { length graph.old ≡ length family.now }
+    ensures len { length graph.new ≡ length graph.old }
+    ensures own { OnOk result
+        (successors_of graph.new class ≡ successors_of graph.old class ++ substitutes_in family.now above.now) }
+    ensures others { (c : ℕ) → (c ≡ class → ⊥) → successors_of graph.new c ≡ successors_of graph.old c }
+{
+    for built_in in above {
+        add_substitute(graph, family, class, *built_in)?;
+    }
+    Ok(())
+}
+
+/// Adds an edge from a class to the substitute of a built-in one, if it has one.
+fn add_substitute(
+    graph: &mut Graph,
+    family: &Family,
+    class: u32,
+    above: BuiltIn,
+) -> Result<(), AllocError>
+    requires class { class < length graph.old }
+    requires count { length graph.old ≡ length family.now }
+    ensures len { length graph.new ≡ length graph.old }
+    ensures own { OnOk result (successors_of graph.new class
+        ≡ successors_of graph.old class ++ option_to_list (substitute_in family.now above)) }
+    ensures others { (c : ℕ) → (c ≡ class → ⊥) → successors_of graph.new c ≡ successors_of graph.old c }
+{
+    match family.substitute(above) {
+        Some(substitute) => graph.add(class as usize, substitute as usize),
+        None => Ok(()),
+    }
 }

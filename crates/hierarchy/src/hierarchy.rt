@@ -15,6 +15,7 @@ ghost use Rattle.built_in.specs.Methods.{key_of_member};
 ghost use Rattle.hierarchy.specs.steps.MemberKeys.{IsLookup, AreNumbers};
 ghost use Rattle.hierarchy.specs.MemberLookup.{flags_in, is_inherited, key_in, member_flags};
 ghost use Rattle.hierarchy.specs.MemberNames.{text_in, named_in};
+ghost use Rattle.hierarchy.specs.Subtypes.{is_above_built_in};
 
 use crate::beyond::Beyond;
 use crate::member::DeclaredMember;
@@ -63,7 +64,7 @@ impl Model for Hierarchy {
 
     ghost view = { λ h. record { family = h.family; texts = h.table.texts } };
 
-    ghost invariant = { λ h. IsHierarchy h.family h.table h.nearest };
+    ghost invariant = { λ h. IsHierarchy h.family h.table h.nearest h.beyond };
 }
 
 impl Hierarchy {
@@ -100,6 +101,14 @@ impl Hierarchy {
         ensures { result ≡ substitute_in self.now.family class }
     {
         self.family.substitute(class)
+    }
+
+    /// Whether a built-in class's substitute is a given class, or below it.
+    pub(crate) fn is_above_built_in(&self, class: BuiltIn, other: u32) -> bool
+        ensures { result ≡ is_above_built_in self.now.family class other }
+    {
+        let beyond = &self.beyond;
+        beyond.is_below(class, other)
     }
 
     /// The text of a number, or no bytes.

@@ -2,12 +2,14 @@
 
 ghost use Rattle.std.specs.Prelude.{◌≡◌, ◌==◌};
 ghost use Rattle.std.specs.List.{list_any};
+ghost use Rattle.built_in.specs.ClassNames.{all_built_in};
 ghost use Rattle.hierarchy.specs.Initialization.{given_superclasses};
 ghost use Rattle.hierarchy.specs.Subclasses.{is_above};
-ghost use Rattle.hierarchy.specs.Subtypes.{is_below, are_below, is_reached, is_above_all, is_class_below, is_given_below, is_built_in_class_below};
-ghost use Rattle.hierarchy.specs.Subtypes.{is_array_below, is_array_type_below, is_element_below, is_object_element};
-ghost use Rattle.hierarchy.specs.Subtypes.{is_unknown_below};
-ghost use Rattle.hierarchy.specs.Subtypes.{is_object, class_of_element, type_code, is_end_below, end_of_chain};
+ghost use Rattle.hierarchy.specs.Subtypes.{are_below, class_of_element, end_of_chain, has_slots_of, is_array_below};
+ghost use Rattle.hierarchy.specs.Subtypes.{is_array_type_below, is_below, is_built_in_class_below, is_class_below};
+ghost use Rattle.hierarchy.specs.Subtypes.{is_element_below, is_end_below, is_given_below, is_object};
+ghost use Rattle.hierarchy.specs.Subtypes.{is_object_element, is_reached, is_unknown_below, type_code};
+ghost use Rattle.hierarchy.specs.steps.Beyond.{is_by_way_of, is_directly_below, is_end, is_under};
 
 use crate::class_set::ClassSet;
 use crate::few_classes::FewClasses;
@@ -21,6 +23,17 @@ impl Hierarchy {
         ensures { result ≡ is_below self.now.family class other }
     {
         self.are_below(self.family().replaced(class), self.family().replaced(other))
+    }
+
+    /// Whether objects of a class have the slots of a built-in one, which it is or ends below.
+    pub fn has_slots_of(&self, class: ClassId, other: BuiltIn) -> bool
+        ensures { result ≡ has_slots_of self.now.family other class }
+    {
+        match class {
+            ClassId::Given(class) => self.is_top_below(class, other),
+            ClassId::BuiltIn(class) => class.is_below(other),
+            ClassId::Array(_) => false,
+        }
     }
 
     /// Whether a class is another one, or below it, where substitutes stand in the place of built-in classes.
@@ -49,42 +62,53 @@ impl Hierarchy {
         ensures { result ≡ is_given_below self.now.family class other }
     {
         match other {
-            ClassId::Given(other) => class == other || self.is_reached(class, other),
+            ClassId::Given(other) => self.is_reached(class, other),
             ClassId::BuiltIn(other) => self.is_top_below(class, other),
             ClassId::Array(_) => false,
         }
     }
 
-    /// Whether the second of two given classes is reached from the first by steps up. The first step to a substitute is
-    /// to that of the built-in class at the end of its superclasses, or to one beyond a substitute above it.
+    /// Whether the second of two given classes is the first, or reached from it by steps up: by given parents, or by
+    /// way of a substitute.
     fn is_reached(&self, class: u32, other: u32) -> bool
         ensures { result ≡ is_reached self.now.family class other }
     {
-        self.is_above(class, other) || self.is_beyond(class, other)
+        let _classes = self.family().classes();
+        self.is_under(class, Some(other)) || self.is_beyond(class, other)
     }
 
-    /// Whether the second of two given classes is reached by way of a substitute.
-    fn is_beyond(&self, class: u32, other: u32) -> bool {
-        BuiltIn::all().iter().any(|b| self.is_substitute_below(*b, other)
-            && self.is_directly_below(class, *b))
+    /// Whether the second of two given classes is reached by way of a substitute. The first one on the way is that of
+    /// the built-in class at the end of the superclasses, or that of one above a substitute.
+    fn is_beyond(&self, class: u32, other: u32) -> bool
+        ensures { result ≡ list_any (is_by_way_of self.now.family class other) all_built_in }
+    {
+        BuiltIn::all()
+            .iter()
+            .any(|built_in| self.is_by_way_of(class, other, *built_in))
+    }
+
+    /// Whether the second of two given classes is reached by way of this substitute.
+    fn is_by_way_of(&self, class: u32, other: u32, built_in: BuiltIn) -> bool
+        ensures { result ≡ is_by_way_of self.now.family class other built_in }
+    {
+        self.is_above_built_in(built_in, other) && self.is_directly_below(class, built_in)
     }
 
     /// Whether a given class ends at a built-in one, or is its substitute or below that by given parents.
-    fn is_directly_below(&self, class: u32, other: BuiltIn) -> bool {
-        if self.top(class) == Some(other) {
-            return true;
-        }
-        match self.substitute(other) {
-            Some(given) => class == given || self.is_above(class, given),
-            None => false,
-        }
+    fn is_directly_below(&self, class: u32, other: BuiltIn) -> bool
+        ensures { result ≡ is_directly_below self.now.family class other }
+    {
+        self.is_end(class, other) || self.is_under(class, self.substitute(other))
     }
 
-    /// Whether a given class is above all classes, as Object's substitute is it or below it.
-    fn is_above_all(&self, class: u32) -> bool
-        ensures { result ≡ is_above_all self.now.family class }
+    /// Whether the second of two given classes is the first, or above it by given parents.
+    fn is_under(&self, class: u32, other: Option<u32>) -> bool
+        ensures { result ≡ is_under self.now.family class other }
     {
-        self.is_substitute_below(BuiltIn::Object, class)
+        match other {
+            Some(other) => class == other || self.is_above(class, other),
+            None => false,
+        }
     }
 
     /// Whether the second of two given classes stands above the first.
@@ -132,6 +156,17 @@ impl Hierarchy {
         self.supers(class).any(|above| above == other)
     }
 
+    /// Whether a built-in class is the one at the end of a given one's superclasses.
+    fn is_end(&self, class: u32, other: BuiltIn) -> bool
+        ensures { result ≡ is_end other (end_of_chain self.now.family class) }
+    {
+        let _classes = self.family().classes();
+        match self.top(class) {
+            Some(top) => top == other,
+            None => false,
+        }
+    }
+
     /// Whether the built-in class above a given one is below another built-in class.
     pub(crate) fn is_top_below(&self, class: u32, other: BuiltIn) -> bool
         ensures { result ≡ is_end_below other (end_of_chain self.now.family class) }
@@ -150,7 +185,7 @@ impl Hierarchy {
         match other {
             ClassId::Array(other) => self.is_array_type_below(array, other),
             ClassId::BuiltIn(other) => is_object(other),
-            ClassId::Given(other) => self.is_above_all(other),
+            ClassId::Given(other) => self.is_above_built_in(BuiltIn::Object, other),
         }
     }
 
@@ -195,7 +230,7 @@ impl Hierarchy {
     {
         match element {
             ElementType::BuiltIn(class) => is_object(class),
-            ElementType::Given(class) => self.is_above_all(class),
+            ElementType::Given(class) => self.is_above_built_in(BuiltIn::Object, class),
             _ => false,
         }
     }

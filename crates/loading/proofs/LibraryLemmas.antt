@@ -105,7 +105,7 @@ number_tells files up name (Some c) says = by_case (number_among files name) ref
 
 -- ---- all built-in classes
 
-stands_at : (b : BuiltIn) → get_or all_built_in (number_of_built_in b) builtins.Object ≡ b
+pub stands_at : (b : BuiltIn) → get_or all_built_in (number_of_built_in b) builtins.Object ≡ b
 stands_at builtins.Object = refl
 stands_at _ = refl
 
@@ -113,7 +113,7 @@ read_at : (b : BuiltIn) → slice_get all_built_in (number_of_built_in b) ≡ So
 read_at builtins.Object = refl
 read_at _ = refl
 
-small : (b : BuiltIn) → number_of_built_in b < length all_built_in
+pub small : (b : BuiltIn) → number_of_built_in b < length all_built_in
 small builtins.Object = omega arith
 small _ = omega arith
 
@@ -132,7 +132,7 @@ each_passes p all b = by_case (p b) refl
         list_all_at p all_built_in (number_of_built_in b) builtins.Object (small b) at in
         absurd cc)
 
-any_found : (p : BuiltIn → Bool) (bs : List BuiltIn) → list_any p bs ≡ true → (b : BuiltIn) × (p b ≡ true)
+pub any_found : (p : BuiltIn → Bool) (bs : List BuiltIn) → list_any p bs ≡ true → (b : BuiltIn) × (p b ≡ true)
 any_found p [] e = absurd cc
 any_found p (b ∷ bs) e = by_case (p b) refl e
   where
