@@ -26,12 +26,11 @@ use Rattle.hierarchy.proofs.StepsUpLemmas.{graph_tells, none_in}
 
 -- ---- a list of lists joined, as a loop does it
 
-pub joined_more : {X : Type 0} (f : X → List ℕ) (bs : List X) (k : ℕ) (b : X) (xs ys zs : List ℕ) → k < length bs
-    → b ≡ get_or bs k b → ys ≡ xs ++ flat_map f (take k bs) → zs ≡ ys ++ f b → zs ≡ xs ++ flat_map f (take (k + 1) bs)
-joined_more {X} f bs k b xs ys zs within read before after =
-    after ∙ ap (λ (l : List ℕ). l ++ f b) before ∙ flat_map_more f xs (take k bs) b
-    ∙ ap (λ (l : List X). xs ++ flat_map f l)
-    (ap (λ (z : X). take k bs ++ z ∷ []) read ∙ sym (take_more bs k b within))
+pub joined_more : {X : Type 0} (f : X → List ℕ) (bs : List X) (k : ℕ) (d : X) (xs ys zs : List ℕ) → k < length bs
+    → ys ≡ xs ++ flat_map f (take k bs) → zs ≡ ys ++ f (get_or bs k d) → zs ≡ xs ++ flat_map f (take (k + 1) bs)
+joined_more {X} f bs k d xs ys zs within before after =
+    after ∙ ap (λ (l : List ℕ). l ++ f (get_or bs k d)) before ∙ flat_map_more f xs (take k bs) (get_or bs k d)
+    ∙ ap (λ (l : List X). xs ++ flat_map f l) (sym (take_more bs k d within))
 
 pub joined_whole : {X : Type 0} (f : X → List ℕ) (bs : List X) (k : ℕ) (xs ys : List ℕ) → length bs ≤ k
     → ys ≡ xs ++ flat_map f (take k bs) → ys ≡ xs ++ flat_map f bs
@@ -142,53 +141,61 @@ length_one_more : {A : Type 0} (xs : List A) (y : A) → length (xs ++ y ∷ [])
 length_one_more [] y = refl
 length_one_more (x ∷ xs) y = ap suc (length_one_more xs y)
 
-pub record AreReachedSoFar (family : Family) (n : ℕ) (reached : List Seen) : Type 0 where
+-- of so many of some built-in classes
+pub record AreReachedSoFar (family : Family) (bs : List BuiltIn) (n : ℕ) (reached : List Seen) : Type 0 where
   pub count : length reached ≡ n
-  pub each : (i : ℕ) (b : BuiltIn) (d : ℕ) → i < n → get_or all_built_in i b ≡ b
-      → Contains (items_of (slice_get reached i)) d ↔ (is_above_built_in family b d ≡ true)
+  pub each : (i : ℕ) (t : BuiltIn) (d : ℕ) → i < n
+      → Contains (items_of (slice_get reached i)) d ↔ (is_above_built_in family (get_or bs i t) d ≡ true)
+
+pub reached_first : (family : Family) (bs : List BuiltIn) → AreReachedSoFar family bs 0 []
+reached_first family bs = record { count = refl; each = λ i t d below. absurd (omega arith) }
 
 module _ (family : Family) (within : AreParentsWithin family) where
-  pub reached_more : (graph : Rows) → IsGraphUp family graph → (n : ℕ) (b : BuiltIn) (s : ℕ) (seen : Seen)
-      (old new : List Seen) → n < length all_built_in → b ≡ get_or all_built_in n b → substitute_in family b ≡ Some s
+  pub reached_more : (graph : Rows) → IsGraphUp family graph → (bs : List BuiltIn) (n : ℕ) (e : BuiltIn) (s : ℕ)
+      (seen : Seen) (old new : List Seen) → n < length bs → substitute_in family (get_or bs n e) ≡ Some s
       → ((m : ℕ) → Contains seen.items m ↔ Reaches graph s m) → new ≡ old ++ seen ∷ []
-      → AreReachedSoFar family n old → AreReachedSoFar family (n + 1) new
-  reached_more graph rows n b s seen old new short read to members pushed h = record {
+      → AreReachedSoFar family bs n old → AreReachedSoFar family bs (n + 1) new
+  reached_more graph rows bs n e s seen old new short to members pushed h = record {
     count = ap length pushed ∙ length_one_more old seen ∙ ap (λ (m : ℕ). m + 1) h.count;
-    each = λ i t d below at. elim (cases_lt i n) [
+    each = λ i t d below. elim (cases_lt i n) [
       | inl less ↦
-          subst (λ (o : Option Seen). Contains (items_of o) d ↔ (is_above_built_in family t d ≡ true))
+          subst (λ (o : Option Seen). Contains (items_of o) d ↔ (is_above_built_in family (get_or bs i t) d ≡ true))
           (sym (ap (λ (l : List Seen). slice_get l i) pushed ∙ front_of old (seen ∷ []) i (omega (arith, less, h.count))))
-          (h.each i t d less at)
-      | inr more ↦ (let here : i ≡ length old = omega (arith, h.count) in
-          let same : b ≡ t = one_at i t below more at in
-          let one : slice_get new i ≡ Some seen =
-          ap (λ (l : List Seen). slice_get l i) pushed
-          ∙ ap (λ (m : ℕ). slice_get (old ++ seen ∷ []) m) here ∙ last_one old seen in
-          subst (λ (o : Option Seen). Contains (items_of o) d ↔ (is_above_built_in family t d ≡ true)) (sym one)
-          (subst (λ (z : BuiltIn). Contains seen.items d ↔ (is_above_built_in family z d ≡ true)) same (reaches d)))
+          (h.each i t d less)
+      | inr more ↦ last_of i t d (omega arith)
     ];
   }
     where
-      reaches : (d : ℕ) → Contains seen.items d ↔ (is_above_built_in family b d ≡ true)
+      reaches : (d : ℕ) → Contains seen.items d ↔ (is_above_built_in family (get_or bs n e) d ≡ true)
       reaches d =
-          let as_class : is_above_built_in family b d ≡ is_reached_from family (Some s) d =
+          let as_class : is_above_built_in family (get_or bs n e) d ≡ is_reached_from family (Some s) d =
           ap (λ (o : Option ℕ). is_reached_from family o d) to in
           let tells = graph_tells family within graph rows s d in (
             (λ has. as_class ∙ tells.0 ((members d).0 has)),
             (λ is. (members d).1 (tells.1 (sym as_class ∙ is))),
           )
 
-      one_at : (i : ℕ) (t : BuiltIn) → i < n + 1 → n ≤ i → get_or all_built_in i t ≡ t → b ≡ t
-      one_at i t below more at =
-          let here : n ≡ i = omega arith in
-          read ∙ get_or_default all_built_in n b t short ∙ ap (λ (m : ℕ). get_or all_built_in m t) here ∙ at
+      last_of : (i : ℕ) (t : BuiltIn) (d : ℕ) → i ≡ n
+          → Contains (items_of (slice_get new i)) d ↔ (is_above_built_in family (get_or bs i t) d ≡ true)
+      last_of i t d here =
+          let one : slice_get new i ≡ Some seen =
+          ap (λ (l : List Seen). slice_get l i) pushed
+          ∙ ap (λ (m : ℕ). slice_get (old ++ seen ∷ []) m) (here ∙ sym h.count) ∙ last_one old seen in
+          let same : get_or bs i t ≡ get_or bs n e =
+          ap (λ (m : ℕ). get_or bs m t) here ∙ get_or_default bs n t e short in
+          subst (λ (o : Option Seen). Contains (items_of o) d ↔ (is_above_built_in family (get_or bs i t) d ≡ true))
+          (sym one)
+          (subst (λ (b : BuiltIn). Contains seen.items d ↔ (is_above_built_in family b d ≡ true)) (sym same) (reaches d))
 
-  pub reached_whole : (n : ℕ) (reached : List Seen) → length all_built_in ≤ n → AreReachedSoFar family n reached
-      → AreReachedAt family reached
-  reached_whole n reached all h b d =
+  pub reached_whole : (bs : List BuiltIn) (n : ℕ) (reached : List Seen) → bs ≡ all_built_in → length bs ≤ n
+      → AreReachedSoFar family bs n reached → AreReachedAt family reached
+  reached_whole bs n reached same all h b d =
+      let k = number_of_built_in b in
       let below = small b in
-      h.each (number_of_built_in b) b d (omega (arith, below, all))
-      (get_or_default all_built_in (number_of_built_in b) b builtins.Object below ∙ stands_at b)
+      let many = ap length same in
+      subst (λ (c : BuiltIn). Contains (items_of (slice_get reached k)) d ↔ (is_above_built_in family c d ≡ true))
+      (ap (λ (l : List BuiltIn). get_or l k builtins.Object) same ∙ stands_at b)
+      (h.each k builtins.Object d (omega (arith, below, all, many)))
 
 -- none where the library is not there
 pub reached_none : (family : Family) (b : BuiltIn) → substitute_in family b ≡ None → AreReachedAt family []

@@ -1,13 +1,14 @@
 //! What is reached from the substitutes of the built-in classes by steps up, where the library is there: a class is below
 //! a built-in one where it is below that one's substitute.
 
-ghost use Rattle.std.specs.Prelude.{◌≡◌, ℕ, ◌<◌, ◌++◌, [], length, option_to_list, IfOk, OnOk};
+ghost use Rattle.std.specs.Prelude.{◌≡◌, ◌↔◌, ℕ, ◌<◌, ◌++◌, length, option_to_list, slice_get, IsTrue, IfOk, OnOk};
 ghost use Rattle.graph.specs.Rows.{successors_of};
-ghost use Rattle.std.specs.List.{All, flat_map};
+ghost use Rattle.std.specs.List.{All, Contains, flat_map};
 ghost use Rattle.built_in.specs.ClassNames.{all_built_in};
 ghost use Rattle.loading.specs.Families.{Family as Classes, substitute_in};
 ghost use Rattle.hierarchy.specs.Subtypes.{is_above_built_in, substitutes_in, up_in};
 ghost use Rattle.hierarchy.specs.steps.Beyond.{AreReached, AreReachedAt, IsGraphUp, above_substitute, beyond_superclass};
+ghost use Rattle.hierarchy.specs.steps.Beyond.{items_of};
 
 use built_in::class_id::BuiltIn;
 use graph::{Graph, Visited, reach};
@@ -32,24 +33,33 @@ impl Beyond {
     pub(crate) fn of_family(alloc: Global, family: &Family) -> Result<Beyond, AllocError>
         ensures { IfOk result (AreReached family.now) }
     {
-        if family.substitute(BuiltIn::Object).is_none() {
-            return Ok(Beyond {
+        match family.substitute(BuiltIn::Object) {
+            Some(_) => {
+                let graph = graph_up(alloc, family)?;
+                let reached = all_reached(alloc, &graph, family)?;
+                Ok(Beyond { reached })
+            }
+            None => Ok(Beyond {
                 reached: Vec::new(alloc),
-            });
+            }),
         }
-        let graph = graph_up(alloc, family)?;
-        let reached = all_reached(alloc, &graph, family)?;
-        Ok(Beyond { reached })
     }
 
     /// Whether a class's substitute is a given class, or below it.
     pub(crate) fn is_below(&self, class: BuiltIn, other: u32) -> bool
         ensures { (family : Classes) → AreReached family self.now → result ≡ is_above_built_in family class other }
     {
-        match self.reached.get(class.number()) {
-            Some(reached) => reached.has(other as usize),
-            None => false,
-        }
+        has_at(self.reached.as_slice(), class.number(), other as usize)
+    }
+}
+
+/// Whether the set at a place has a member.
+fn has_at(sets: &[Visited], place: usize, member: usize) -> bool
+    ensures { IsTrue result ↔ Contains (items_of (slice_get sets.now place)) member }
+{
+    match sets.get(place) {
+        Some(set) => set.has(member),
+        None => false,
     }
 }
 
@@ -58,6 +68,7 @@ fn all_reached(alloc: Global, graph: &Graph, family: &Family) -> Result<Vec<Visi
     requires { IsGraphUp family.now graph.now }
     ensures { IfOk result (λ reached. AreReachedAt family.now reached.items) }
 {
+    let _classes = family.classes();
     let mut reached = Vec::new(alloc);
     for class in BuiltIn::all() {
         match family.substitute(*class) {

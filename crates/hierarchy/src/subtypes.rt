@@ -3,6 +3,7 @@
 ghost use Rattle.std.specs.Prelude.{◌≡◌, ◌==◌};
 ghost use Rattle.std.specs.List.{list_any};
 ghost use Rattle.built_in.specs.ClassNames.{all_built_in};
+ghost use Rattle.built_in.specs.Subclasses.{is_same_built_in};
 ghost use Rattle.hierarchy.specs.Initialization.{given_superclasses};
 ghost use Rattle.hierarchy.specs.Subclasses.{is_above};
 ghost use Rattle.hierarchy.specs.Subtypes.{are_below, class_of_element, end_of_chain, has_slots_of, is_array_below};
@@ -74,7 +75,10 @@ impl Hierarchy {
         ensures { result ≡ is_reached self.now.family class other }
     {
         let _classes = self.family().classes();
-        self.is_under(class, Some(other)) || self.is_beyond(class, other)
+        if self.is_under(class, Some(other)) {
+            return true;
+        }
+        self.is_beyond(class, other)
     }
 
     /// Whether the second of two given classes is reached by way of a substitute. The first one on the way is that of
@@ -162,7 +166,7 @@ impl Hierarchy {
     {
         let _classes = self.family().classes();
         match self.top(class) {
-            Some(top) => top == other,
+            Some(top) => is_same(top, other),
             None => false,
         }
     }
@@ -244,6 +248,13 @@ fn is_built_in_class_below(class: BuiltIn, other: ClassId) -> bool
         ClassId::BuiltIn(other) => class.is_below(other),
         ClassId::Given(_) | ClassId::Array(_) => false,
     }
+}
+
+/// Whether two built-in classes are the same.
+fn is_same(class: BuiltIn, other: BuiltIn) -> bool
+    ensures { result ≡ is_same_built_in class other }
+{
+    class == other
 }
 
 fn is_object(class: BuiltIn) -> bool

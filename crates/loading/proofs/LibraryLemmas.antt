@@ -5,7 +5,7 @@ use Rattle.std.specs.List.{list_all, list_any, position_from, slice_get}
 use Rattle.std.specs.Option.{MatchOption, option_map, is_some}
 use Rattle.std.specs.Str.{bytes_eq}
 use Rattle.std.proofs.lemmas.Option.{same_Some, slice_get-map}
-use Rattle.std.proofs.lemmas.List.{length-map, map-append, take_all, take_more}
+use Rattle.std.proofs.lemmas.List.{length-map, map-append, map_more, take_all}
 use Rattle.std.proofs.lemmas.List.Folds.{list_all_at}
 use Rattle.std.proofs.lemmas.Slice.Eq.{bytes_eq-Decides}
 use Rattle.classfile.specs.ClassFile.{ClassFile}
@@ -197,23 +197,40 @@ substitute_named files b d e = by_case (has_library files) refl
         (there, number_is_given files (substitute_name b) d number))
     by_case false gone = (let none : None ≡ Some d = rw gone at e in absurd cc)
 
+-- whether a file is that of a class's substitute
+pub own_there : (files : List ClassFile) (f : ClassFile) (b : BuiltIn) (d : ℕ) (r : Bool)
+    → substitute_among files b ≡ Some d → r ≡ bytes_eq (name_of f) (substitute_name b)
+    → r ≡ is_own files f (name_of_built_in b)
+own_there files f b d r is same =
+    let there : has_library files ≡ true = sym (library_tells files b) ∙ ap is_some is in
+    same ∙ sym (ap (λ (t : Bool). t && bytes_eq (name_of f) (substitute_name b)) there)
+
+pub own_gone : (files : List ClassFile) (f : ClassFile) (b : BuiltIn) → substitute_among files b ≡ None
+    → false ≡ is_own files f (name_of_built_in b)
+own_gone files f b is =
+    let gone : has_library files ≡ false = sym (library_tells files b) ∙ ap is_some is in
+    sym (ap (λ (t : Bool). t && bytes_eq (name_of f) (substitute_name b)) gone)
+
 -- ---- the table of substitutes
 
-abbrev pub AreNumbersSoFar : List ClassFile → ℕ → List ℕ → Type 0
-AreNumbersSoFar files n numbers =
-    map Some numbers ≡ map (λ (b : BuiltIn). number_among files (substitute_name b)) (take n all_built_in)
+abbrev number_of_class : List ClassFile → BuiltIn → Option ℕ
+number_of_class files b = number_among files (substitute_name b)
+
+-- of so many of some built-in classes
+abbrev pub AreNumbersSoFar : List ClassFile → List BuiltIn → ℕ → List ℕ → Type 0
+AreNumbersSoFar files bs n numbers = map Some numbers ≡ map (number_of_class files) (take n bs)
 
 -- one number more
-pub numbers_more : (files : List ClassFile) (n : ℕ) (b : BuiltIn) (d : ℕ) (old new : List ℕ)
-    → n < length all_built_in → b ≡ get_or all_built_in n b → number_among files (substitute_name b) ≡ Some d
-    → new ≡ old ++ d ∷ [] → AreNumbersSoFar files n old → AreNumbersSoFar files (n + 1) new
-numbers_more files n b d old new within read found pushed so_far =
-    rw (pushed, take_more all_built_in n b within) (simp (map-append) joined)
-  where
-    joined : map Some old ++ Some d ∷ [] ≡ map (λ (b : BuiltIn). number_among files (substitute_name b))
-        (take n all_built_in)
-        ++ number_among files (substitute_name (get_or all_built_in n b)) ∷ []
-    joined = rw (so_far, ← read, found) refl
+pub numbers_more : (files : List ClassFile) (bs : List BuiltIn) (n : ℕ) (d : BuiltIn) (number : ℕ) (old new : List ℕ)
+    → n < length bs → number_among files (substitute_name (get_or bs n d)) ≡ Some number → new ≡ old ++ number ∷ []
+    → AreNumbersSoFar files bs n old → AreNumbersSoFar files bs (n + 1) new
+numbers_more files bs n d number old new within found pushed so_far =
+    let g : BuiltIn → Option ℕ = number_of_class files in
+    let wrap : ℕ → Option ℕ = λ z. Some z in
+    ap (map wrap) pushed ∙ map-append wrap old (number ∷ [])
+    ∙ ap (λ (l : List (Option ℕ)). l ++ Some number ∷ []) so_far
+    ∙ ap (λ (o : Option ℕ). map g (take n bs) ++ o ∷ []) (sym found)
+    ∙ sym (map_more g bs n d within)
 
 option_read : (o p : Option ℕ) → option_map Some o ≡ Some p → o ≡ p
 option_read None p e = absurd cc
@@ -235,12 +252,12 @@ some_is [] n within = absurd (omega arith)
 some_is (x ∷ xs) zero within = refl
 some_is (x ∷ xs) (suc n) within = some_is xs n (omega arith)
 
-library_lacks : (files : List ClassFile) (n : ℕ) (b : BuiltIn) → n < length all_built_in
-    → b ≡ get_or all_built_in n b → number_among files (substitute_name b) ≡ None → has_library files ≡ false
+library_lacks : (files : List ClassFile) (bs : List BuiltIn) (n : ℕ) (d : BuiltIn) → bs ≡ all_built_in
+    → n < length bs → number_among files (substitute_name (get_or bs n d)) ≡ None → has_library files ≡ false
 unfolding has_library
-library_lacks files n b within read none =
-    list_all_at (λ b. is_some (number_among files (substitute_name b))) all_built_in n b within
-    (ap (λ (z : BuiltIn). is_some (number_among files (substitute_name z))) (sym read) ∙ ap is_some none)
+library_lacks files bs n d all within none =
+    let p : BuiltIn → Bool = λ b. is_some (number_among files (substitute_name b)) in
+    ap (list_all p) (sym all) ∙ list_all_at p bs n d within (ap is_some none)
 
 pub all_numbers : (files : List ClassFile) (numbers : List ℕ)
     → map Some numbers ≡ map (λ (b : BuiltIn). number_among files (substitute_name b)) all_built_in → length numbers ≡ 20
@@ -257,19 +274,19 @@ all_numbers files numbers all count b =
     there = library_of files each
 
 -- and all of them
-pub numbers_whole : (files : List ClassFile) (n : ℕ) (numbers : List ℕ) → length all_built_in ≤ n
-    → AreNumbersSoFar files n numbers → AreSubstitutes files numbers
-numbers_whole files n numbers all so_far =
-    let g : BuiltIn → Option ℕ = λ b. number_among files (substitute_name b) in
+pub numbers_whole : (files : List ClassFile) (bs : List BuiltIn) (n : ℕ) (numbers : List ℕ) → bs ≡ all_built_in
+    → length bs ≤ n → AreNumbersSoFar files bs n numbers → AreSubstitutes files numbers
+numbers_whole files bs n numbers same all so_far =
+    let g : BuiltIn → Option ℕ = number_of_class files in
     let wrap : ℕ → Option ℕ = λ z. Some z in
     let whole : map Some numbers ≡ map (λ (b : BuiltIn). number_among files (substitute_name b)) all_built_in =
-    so_far ∙ ap (map g) (take_all n all_built_in all) in
+    so_far ∙ ap (map g) (take_all n bs all ∙ same) in
     all_numbers files numbers whole
     (sym (length-map numbers wrap) ∙ ap length whole ∙ length-map all_built_in g)
 
-pub no_numbers : (files : List ClassFile) (n : ℕ) (b : BuiltIn) → n < length all_built_in
-    → b ≡ get_or all_built_in n b → number_among files (substitute_name b) ≡ None → AreSubstitutes files []
-no_numbers files n b within read none c = rw (library_lacks files n b within read none) refl
+pub no_numbers : (files : List ClassFile) (bs : List BuiltIn) (n : ℕ) (d : BuiltIn) → bs ≡ all_built_in
+    → n < length bs → number_among files (substitute_name (get_or bs n d)) ≡ None → AreSubstitutes files []
+no_numbers files bs n d all within none c = rw (library_lacks files bs n d all within none) refl
 
 -- ---- the class that a superclass is
 
@@ -321,3 +338,45 @@ meant_named files f named (super.BuiltIn b) name e =
     (meant_at files b (is_interface f) (is_own files f (name_of_built_in b)) (has_library files)
     (is_built_in_name (name_of_built_in b)) (number_among files (substitute_name b)) (has_built_in_name b)
     (λ there. number_there files there b) (number_is_given files (substitute_name b)))
+
+-- as the code asks it: first whether the file is of an interface, or of the substitute itself
+itself_by : (b : BuiltIn) (i h o : Bool) (n : Option ℕ) → (i || o) ≡ true
+    → super.BuiltIn b ≡ cond (i || (h && o)) (super.BuiltIn b) (given_or (super.BuiltIn b) (cond h n None))
+itself_by b true h o n is = refl
+itself_by b false true true n is = refl
+itself_by b false false true n is = refl
+itself_by b false h false n is = absurd cc
+
+other_by : (b : BuiltIn) (i h o : Bool) (n r : Option ℕ) → (i || o) ≡ false → cond h n None ≡ r
+    → given_or (super.BuiltIn b) r
+    ≡ cond (i || (h && o)) (super.BuiltIn b) (given_or (super.BuiltIn b) (cond h n None))
+other_by b true h o n r no is = absurd cc
+other_by b false h true n r no is = absurd cc
+other_by b false true false n r no is = sym (ap (given_or (super.BuiltIn b)) is)
+other_by b false false false n r no is = sym (ap (given_or (super.BuiltIn b)) is)
+
+pub means_itself : (files : List ClassFile) (f : ClassFile) (b : BuiltIn)
+    → (is_interface f || bytes_eq (name_of f) (substitute_name b)) ≡ true
+    → super.BuiltIn b ≡ meant files f (super.BuiltIn b)
+means_itself files f b is =
+    itself_by b (is_interface f) (has_library files) (bytes_eq (name_of f) (substitute_name b))
+    (number_among files (substitute_name b)) is
+
+pub means_other : (files : List ClassFile) (f : ClassFile) (b : BuiltIn) (r : Option ℕ)
+    → (is_interface f || bytes_eq (name_of f) (substitute_name b)) ≡ false → substitute_among files b ≡ r
+    → given_or (super.BuiltIn b) r ≡ meant files f (super.BuiltIn b)
+means_other files f b r no is =
+    other_by b (is_interface f) (has_library files) (bytes_eq (name_of f) (substitute_name b))
+    (number_among files (substitute_name b)) r no is
+
+-- ---- what an interface extends
+
+pub wants_object : (i o : Bool) → (i && not o) ≡ true → (i ≡ true) × (o ≡ false)
+wants_object true true is = absurd cc
+wants_object true false is = (refl, refl)
+wants_object false o is = absurd cc
+
+pub has_object : (i o : Bool) → (i && not o) ≡ false → i ≡ true → o ≡ true
+has_object true true no is = refl
+has_object true false no is = absurd cc
+has_object false o no is = absurd cc

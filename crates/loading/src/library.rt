@@ -1,11 +1,12 @@
 //! The classes that stand for the built-in ones, where a set of class files brings one for each of them.
 
-ghost use Rattle.std.specs.Prelude.{◌≡◌, ◌↔◌, ℕ, false, List, Option, IfOk, MatchOption, Some};
+ghost use Rattle.std.specs.Prelude.{◌≡◌, ◌↔◌, ℕ, false, List, Option, IfOk, MatchOption, Some, slice_get};
 ghost use Rattle.std.specs.Str.{bytes_eq};
 ghost use Rattle.classfile.specs.ClassFile.{ClassFile as File};
 ghost use Rattle.built_in.specs.ClassNames.{name_of_built_in, substitute_name};
+ghost use Rattle.built_in.specs.Subclasses.{number_of_built_in};
 ghost use Rattle.loading.specs.Files.{WithinLimit, IsGiven};
-ghost use Rattle.loading.specs.Library.{has_library, is_own, substitute_among, superclass_meant};
+ghost use Rattle.loading.specs.Library.{has_library, is_own, number_among, superclass_meant};
 ghost use Rattle.built_in.specs.declared.class_id.ClassId.{ClassId as Class};
 ghost use Rattle.loading.specs.ClassIds.{Denotes, StandsFor};
 ghost use Rattle.loading.specs.Families.{Family as Classes, files_in};
@@ -30,25 +31,44 @@ pub(crate) fn number_among(files: &[ClassFile], name: &[u8]) -> Option<u32>
     }
 }
 
+/// The number of the file of a class's substitute.
+fn substitute_number(files: &[ClassFile], class: BuiltIn) -> Option<u32>
+    requires few { WithinLimit files.now }
+    requires ascending { Ascend files.now }
+    ensures { result ≡ number_among files.now (substitute_name class) }
+{
+    number_among(files, class.substitute_name().as_bytes())
+}
+
 /// The numbers of the substitutes of the built-in classes, by the numbers of these. None where one is missing.
 pub(crate) fn substitutes_of(alloc: Global, files: &[ClassFile]) -> Result<ClassNumbers, AllocError>
     requires few { WithinLimit files.now }
     requires ascending { Ascend files.now }
     ensures { IfOk result (AreSubstitutes files.now) }
 {
+    let numbers = all_numbers(alloc, files)?;
+    Ok(ClassNumbers::new(numbers))
+}
+
+/// The same numbers, as they come.
+fn all_numbers(alloc: Global, files: &[ClassFile]) -> Result<Vec<u32>, AllocError>
+    requires few { WithinLimit files.now }
+    requires ascending { Ascend files.now }
+    ensures { IfOk result (λ numbers. AreSubstitutes files.now numbers.items) }
+{
     let mut numbers = Vec::new(alloc);
     for class in BuiltIn::all() {
-        match number_among(files, class.substitute_name().as_bytes()) {
+        match substitute_number(files, *class) {
             Some(number) => numbers.push(number)?,
-            None => return Ok(ClassNumbers::new(Vec::new(alloc))),
+            None => return Ok(Vec::new(alloc)),
         }
     }
-    Ok(ClassNumbers::new(numbers))
+    Ok(numbers)
 }
 
 /// The number of a class's substitute, if the library is there.
 pub(crate) fn substitute(substitutes: &[u32], class: BuiltIn) -> Option<u32>
-    ensures { (files : List File) → AreSubstitutes files substitutes.now → result ≡ substitute_among files class }
+    ensures { result ≡ slice_get substitutes.now (number_of_built_in class) }
 {
     substitutes.get(class.number()).copied()
 }
@@ -58,7 +78,10 @@ pub(crate) fn is_own(substitutes: &[u32], file: &ClassFile, class: BuiltIn) -> b
     ensures { (files : List File) → AreSubstitutes files substitutes.now
         → result ≡ is_own files file.now (name_of_built_in class) }
 {
-    substitute(substitutes, class).is_some() && is_file_of_substitute(file, class)
+    match substitute(substitutes, class) {
+        Some(_) => is_file_of_substitute(file, class),
+        None => false,
+    }
 }
 
 /// Whether a class file has the name of a class's substitute.

@@ -1,11 +1,13 @@
 //! The parents of a class by number, or what is wrong with them (JVMS 5.3.5).
 
-ghost use Rattle.std.specs.Prelude.{◌≡◌, ◌⊎◌, true, Some, map, slice_index_or, IfOk, IfErr, MatchOption, MatchResult};
-ghost use Rattle.std.specs.Prelude.{List};
+ghost use Rattle.std.specs.Prelude.{◌≡◌, ◌⊎◌, ◌||◌, ◌&&◌, not, true, Some, map, slice_index_or, IfOk, IfErr, MatchOption};
+ghost use Rattle.std.specs.Prelude.{List, MatchResult};
+ghost use Rattle.std.specs.Str.{bytes_eq};
+ghost use Rattle.built_in.specs.ClassNames.{substitute_name};
 ghost use Rattle.classfile.specs.ClassFile.{ClassFile as File};
 ghost use Rattle.loading.specs.declared.fault.LinkFault.TheVariants.{Memory};
 ghost use Rattle.loading.specs.declared.parents.InterfaceFault.TheVariants as interface_fault;
-ghost use Rattle.loading.specs.Names.{class_name_at, text_at, interfaces_of};
+ghost use Rattle.loading.specs.Names.{class_name_at, text_at, interfaces_of, is_interface, name_of};
 ghost use Rattle.loading.specs.Files.{WithinLimit, IsUnknown, HasLeastBadParent};
 ghost use Rattle.loading.specs.steps.Linking.{name_at, is_interface_at, name_among, may_be_extended, is_object, Ascend};
 ghost use Rattle.loading.specs.steps.Linking.{AreNamed, AreSubstitutes, meant, is_closed, is_closed_for};
@@ -17,7 +19,7 @@ ghost use Rattle.loading.specs.steps.InterfaceFaults.{FailsFor, FailsAmong, IsLe
 
 use crate::fault::{BadParent, LinkFault};
 use crate::given::{ClassNumbers, Superclass};
-use crate::library::{is_own, number_among, substitute};
+use crate::library::{is_file_of_substitute, is_own, number_among, substitute};
 use crate::names::{class_name_at, copy_of_name, is_interface};
 use built_in::class_id::BuiltIn;
 use classfile::{ClassFile, Constant};
@@ -84,16 +86,31 @@ fn is_interface_at(files: &[ClassFile], number: u32) -> bool
 fn meant(substitutes: &[u32], file: &ClassFile, class: Superclass) -> Superclass
     ensures { (files : List File) → AreSubstitutes files substitutes.now → result ≡ meant files file.now class }
 {
-    let Superclass::BuiltIn(built_in) = class else {
-        return class;
-    };
-    if is_interface(file) || is_own(substitutes, file, built_in) {
-        return class;
+    match class {
+        Superclass::Given(_) => class,
+        Superclass::BuiltIn(class) => built_in_meant(substitutes, file, class),
     }
-    match substitute(substitutes, built_in) {
+}
+
+/// The same of a built-in class.
+fn built_in_meant(substitutes: &[u32], file: &ClassFile, class: BuiltIn) -> Superclass
+    ensures { (files : List File) → AreSubstitutes files substitutes.now
+        → result ≡ meant files file.now (Superclass.BuiltIn class) }
+{
+    if means_itself(file, class) {
+        return Superclass::BuiltIn(class);
+    }
+    match substitute(substitutes, class) {
         Some(number) => Superclass::Given(number),
-        None => class,
+        None => Superclass::BuiltIn(class),
     }
+}
+
+/// Whether a file is of an interface, or of a class's substitute.
+fn means_itself(file: &ClassFile, class: BuiltIn) -> bool
+    ensures { result ≡ (is_interface file.now || bytes_eq (name_of file.now) (substitute_name class)) }
+{
+    is_interface(file) || is_file_of_substitute(file, class)
 }
 
 /// Whether a class is closed to a file as its subclass.
@@ -102,8 +119,19 @@ fn is_closed_for(substitutes: &[u32], file: &ClassFile, class: Superclass) -> bo
 {
     match class {
         Superclass::Given(_) => false,
-        Superclass::BuiltIn(class) => is_closed(class) && !is_own(substitutes, file, class),
+        Superclass::BuiltIn(class) => is_closed_to(substitutes, file, class),
     }
+}
+
+/// The same of a built-in class.
+fn is_closed_to(substitutes: &[u32], file: &ClassFile, class: BuiltIn) -> bool
+    ensures { (files : List File) → AreSubstitutes files substitutes.now
+        → result ≡ is_closed_for files file.now (Superclass.BuiltIn class) }
+{
+    if !is_closed(class) {
+        return false;
+    }
+    !is_own(substitutes, file, class)
 }
 
 /// Whether a built-in class has no subclasses.
@@ -136,8 +164,10 @@ fn may_be_extended(
     requires { AreSubstitutes files.now substitutes.now }
     ensures { result ≡ may_be_extended files.now file.now class }
 {
-    !is_closed_for(substitutes, file, class)
-        && !is_interface_class(files, meant(substitutes, file, class))
+    if is_closed_for(substitutes, file, class) {
+        return false;
+    }
+    !is_interface_class(files, meant(substitutes, file, class))
 }
 
 /// Whether it is `Object`.
@@ -145,6 +175,13 @@ fn is_object(class: Superclass) -> bool
     ensures { result ≡ is_object class }
 {
     matches!(class, Superclass::BuiltIn(BuiltIn::Object))
+}
+
+/// Whether a file is of an interface, which has another superclass than `Object`.
+fn extends_no_object(file: &ClassFile, class: Superclass) -> bool
+    ensures { result ≡ (is_interface file.now && not (is_object class)) }
+{
+    is_interface(file) && !is_object(class)
 }
 
 /// The superclass of a class, or the first that is wrong with it.
@@ -168,7 +205,7 @@ fn superclass_of(
     if !may_be_extended(files, substitutes, file, class) {
         return Err(BadParent::NoClass);
     }
-    if is_interface(file) && !is_object(class) {
+    if extends_no_object(file, class) {
         return Err(BadParent::NotObject);
     }
     Ok(meant(substitutes, file, class))
