@@ -167,5 +167,5 @@ are_below family (class.BuiltIn b) other = is_built_in_class_below b other
 -- Whether the first class is the second one, or below it: the least preorder in which a class is below its parents, an
 -- array below Object and below the arrays that its element class allows, and a built-in class and its substitute are
 -- below one another. So it is asked of substitutes in the place of built-in classes.
-abbrev pub is_below : Family → ClassId → ClassId → Bool
+unfoldable pub is_below : Family → ClassId → ClassId → Bool
 is_below family class other = are_below family (replaced family class) (replaced family other)

@@ -20,6 +20,7 @@ use std::cmp::Ordering;
 
 impl Hierarchy {
     /// Whether a class is another one, or below it: whether its objects can be cast to that.
+    #[tactic(auto, unfolding(crate::specs::Subtypes::is_below))]
     pub fn is_below(&self, class: ClassId, other: ClassId) -> bool
         ensures { result ≡ is_below self.now.family class other }
     {

@@ -7,7 +7,7 @@ ghost use Rattle.built_in.specs.declared.class_id.BuiltIn.{BuiltIn as Class};
 ghost use Rattle.built_in.specs.declared.class_id.ElementType.{ElementType as Element};
 ghost use Rattle.built_in.specs.declared.class_id.ArrayType.{ArrayType as Array};
 ghost use Rattle.loading.specs.ClassIds.{object_type, element_text, IsNamed, StandsFor, Denotes};
-ghost use Rattle.loading.specs.ClassIds.{element_replaced, replaced, meant_in};
+ghost use Rattle.loading.specs.ClassIds.{element_replaced, is_file_of_substitute as is_own_file, meant_in, replaced};
 ghost use Rattle.loading.specs.Families.{name_in, superclass_name};
 ghost use Rattle.loading.specs.steps.BaseTypes.{IsBaseType, IsNoBaseType};
 
@@ -165,10 +165,20 @@ impl Family {
     fn meant_in(&self, file: &ClassFile, class: ClassId) -> ClassId
         ensures { result ≡ meant_in self.now file.now class }
     {
-        match class {
-            ClassId::BuiltIn(built_in) if is_file_of_substitute(file, built_in) => class,
-            _ => self.replaced(class),
+        if is_own_file(file, class) {
+            return class;
         }
+        self.replaced(class)
+    }
+}
+
+/// Whether this is the class file of a class's substitute.
+fn is_own_file(file: &ClassFile, class: ClassId) -> bool
+    ensures { result ≡ is_own_file file.now class }
+{
+    match class {
+        ClassId::BuiltIn(class) => is_file_of_substitute(file, class),
+        ClassId::Given(_) | ClassId::Array(_) => false,
     }
 }
 
