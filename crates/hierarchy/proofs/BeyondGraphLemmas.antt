@@ -1,9 +1,9 @@
 -- The graph of steps up, as it is made, and what substitutes reach along it.
-use Rattle.std.proofs.Common.{◌≡◌, ◌↔◌, ℕ, zero, suc, ◌+◌, ◌<◌, ◌≤◌, ◌⊎◌, inl, inr, Bool, true, false, eqb, IsTrue, List, []}
+use Rattle.std.proofs.Common.{◌≡◌, ◌↔◌, ℕ, zero, suc, ◌+◌, ◌<◌, ◌≤◌, ◌⊎◌, inl, inr, Bool, true, false, cond, eqb, IsTrue, List, []}
 use Rattle.std.proofs.Common.{◌∷◌, ◌++◌, length, get_or, take, Option, Some, None, slice_get, option_to_list}
 use Rattle.std.proofs.Common.{refl, sym, ap, subst, ◌∙◌, arith, append-nil}
-use Rattle.std.specs.List.{Contains, flat_map}
-use Rattle.std.proofs.lemmas.Bool.{cases_lt, ne_eqb}
+use Rattle.std.specs.List.{All, Contains, flat_map}
+use Rattle.std.proofs.lemmas.Bool.{cases_lt, eq-eqb, ne_eqb}
 use Rattle.std.proofs.lemmas.Bool.Decides.{same_from_decides}
 use Rattle.std.proofs.lemmas.Grind.{flat_map-append}
 use Rattle.std.proofs.lemmas.List.{append_assoc, flat_map_more, get_or_default, take_all, take_more}
@@ -16,7 +16,9 @@ use Rattle.built_in.specs.Subclasses.{number_of_built_in, superclasses_of_built_
 use Rattle.built_in.specs.declared.class_id.BuiltIn.{BuiltIn}
 use Rattle.built_in.specs.declared.class_id.BuiltIn.TheVariants as builtins
 use Rattle.loading.specs.Families.{Family, AreParentsWithin, interfaces_in, parents_in, substitute_in, superclass_if}
-use Rattle.loading.specs.Families.{superclass_in, superclasses_in}
+use Rattle.loading.specs.Families.{given_superclass, superclass_in, superclasses_in}
+use Rattle.loading.specs.declared.given.Superclass.{Superclass}
+use Rattle.loading.specs.declared.given.Superclass.TheVariants as super
 use Rattle.loading.proofs.LibraryLemmas.{small, stands_at}
 use Rattle.loading.proofs.SubstitutesLemmas.{all_substitutes, substitute_within}
 use Rattle.hierarchy.specs.Subtypes.{built_in_above_if, built_in_of, is_above_built_in, is_reached_from}
@@ -70,6 +72,46 @@ steps_joined family c old first second new a b d =
     d ∙ ap (λ (l : List ℕ). l ++ rest) (b ∙ ap (λ (l : List ℕ). l ++ p) a ∙ append_assoc old i p)
     ∙ append_assoc old (i ++ p) rest
     ∙ ap (λ (l : List ℕ). old ++ l) (sym (in_parts family c))
+
+pub beyond_given : (family : Family) (c d : ℕ) → superclass_in family c ≡ Some (super.Given d)
+    → beyond_superclass family c ≡ d ∷ []
+beyond_given family c d is =
+    ap (λ (s : Option Superclass). given_superclass s ++ substitutes_in family (built_in_of s)) is
+
+pub beyond_built_in : (family : Family) (c : ℕ) (b : BuiltIn) → superclass_in family c ≡ Some (super.BuiltIn b)
+    → beyond_superclass family c ≡ option_to_list (substitute_in family b)
+beyond_built_in family c b is =
+    ap (λ (s : Option Superclass). given_superclass s ++ substitutes_in family (built_in_of s)) is
+    ∙ append-nil (option_to_list (substitute_in family b))
+
+pub beyond_none : (family : Family) (c : ℕ) → superclass_in family c ≡ None → beyond_superclass family c ≡ []
+beyond_none family c is =
+    ap (λ (s : Option Superclass). given_superclass s ++ substitutes_in family (built_in_of s)) is
+
+above_is : (family : Family) (c : ℕ) (b : BuiltIn) (o : Option ℕ) → substitute_in family b ≡ o
+    → above_substitute family c b ≡ substitutes_in family (built_in_above_if o c b)
+above_is family c b o is = ap (λ (z : Option ℕ). substitutes_in family (built_in_above_if z c b)) is
+
+pub above_gone : (family : Family) (c : ℕ) (b : BuiltIn) → substitute_in family b ≡ None
+    → above_substitute family c b ≡ []
+above_gone family c b is = above_is family c b None is
+
+pub above_one : (family : Family) (c : ℕ) (b : BuiltIn) (s : ℕ) → substitute_in family b ≡ Some s → s ≡ c
+    → above_substitute family c b ≡ substitutes_in family (superclasses_of_built_in b)
+above_one family c b s is same =
+    above_is family c b (Some s) is
+    ∙ ap (λ (t : Bool). substitutes_in family (cond t (superclasses_of_built_in b) [])) (eq-eqb s c same)
+
+pub above_other : (family : Family) (c : ℕ) (b : BuiltIn) (s : ℕ) → substitute_in family b ≡ Some s → (s ≡ c → ⊥)
+    → above_substitute family c b ≡ []
+above_other family c b s is other =
+    above_is family c b (Some s) is
+    ∙ ap (λ (t : Bool). substitutes_in family (cond t (superclasses_of_built_in b) [])) (ne_eqb s c other)
+
+-- one vertex is within a limit
+pub one_within : (n x : ℕ) → x < n → All (λ d. d < n) (x ∷ [])
+one_within n x small zero d within = small
+one_within n x small (suc k) d within = absurd (omega arith)
 
 -- ---- one more class
 

@@ -99,21 +99,21 @@ fn add_steps(graph: &mut Graph, family: &Family, class: u32) -> Result<(), Alloc
     ensures own { OnOk result (successors_of graph.new class ≡ successors_of graph.old class ++ up_in family.now class) }
     ensures others { (c : ℕ) → (c ≡ class → ⊥) → successors_of graph.new c ≡ successors_of graph.old c }
 {
-    add_interfaces(graph, class, family.interfaces(class))?;
+    add_edges(graph, class, family.interfaces(class))?;
     add_superclass(graph, family, class)?;
     add_above(graph, family, class)
 }
 
-/// Adds an edge from a class to each of its direct superinterfaces.
-fn add_interfaces(graph: &mut Graph, class: u32, interfaces: &[u32]) -> Result<(), AllocError>
+/// Adds an edge from a class to each of these.
+fn add_edges(graph: &mut Graph, class: u32, above: &[u32]) -> Result<(), AllocError>
     requires class { class < length graph.old }
-    requires within { All (λ d. d < length graph.old) interfaces.now }
+    requires within { All (λ d. d < length graph.old) above.now }
     ensures len { length graph.new ≡ length graph.old }
-    ensures own { OnOk result (successors_of graph.new class ≡ successors_of graph.old class ++ interfaces.now) }
+    ensures own { OnOk result (successors_of graph.new class ≡ successors_of graph.old class ++ above.now) }
     ensures others { (c : ℕ) → (c ≡ class → ⊥) → successors_of graph.new c ≡ successors_of graph.old c }
 {
-    for interface in interfaces {
-        graph.add(class as usize, *interface as usize)?;
+    for to in above {
+        graph.add(class as usize, *to as usize)?;
     }
     Ok(())
 }
@@ -128,7 +128,7 @@ fn add_superclass(graph: &mut Graph, family: &Family, class: u32) -> Result<(), 
     ensures others { (c : ℕ) → (c ≡ class → ⊥) → successors_of graph.new c ≡ successors_of graph.old c }
 {
     match family.superclass(class) {
-        Some(Superclass::Given(above)) => graph.add(class as usize, above as usize),
+        Some(Superclass::Given(above)) => add_edges(graph, class, &[above]),
         Some(Superclass::BuiltIn(above)) => add_substitute(graph, family, class, above),
         None => Ok(()),
     }
@@ -163,12 +163,13 @@ fn add_above_one(
         ≡ successors_of graph.old class ++ above_substitute family.now class built_in) }
     ensures others { (c : ℕ) → (c ≡ class → ⊥) → successors_of graph.new c ≡ successors_of graph.old c }
 {
-    match family.substitute(built_in) {
-        Some(substitute) if substitute == class => {
-            add_substitutes(graph, family, class, built_in.superclasses())
-        }
-        _ => Ok(()),
+    let Some(substitute) = family.substitute(built_in) else {
+        return Ok(());
+    };
+    if substitute == class {
+        return add_substitutes(graph, family, class, built_in.superclasses());
     }
+    Ok(())
 }
 
 /// Adds an edge from a class to the substitute of each of some built-in classes.
@@ -206,7 +207,7 @@ fn add_substitute(
     ensures others { (c : ℕ) → (c ≡ class → ⊥) → successors_of graph.new c ≡ successors_of graph.old c }
 {
     match family.substitute(above) {
-        Some(substitute) => graph.add(class as usize, substitute as usize),
+        Some(substitute) => add_edges(graph, class, &[substitute]),
         None => Ok(()),
     }
 }
