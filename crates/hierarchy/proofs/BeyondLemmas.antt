@@ -148,6 +148,21 @@ both_are : (p q : Bool) → (p && q) ≡ true → (p ≡ true) × (q ≡ true)
 both_are true q is = (refl, is)
 both_are false q is = absurd cc
 
+-- without the library there is no way by a substitute
+pub no_way : (family : Family) (c d : ℕ) → substitute_in family builtins.Object ≡ None → (bs : List BuiltIn)
+    → list_any (is_by_way_of family c d) bs ≡ false
+no_way family c d gone [] = refl
+no_way family c d gone (b ∷ bs) =
+    ap (λ (t : Bool). t || list_any (is_by_way_of family c d) bs) (by_case (substitute_in family b) refl)
+    ∙ no_way family c d gone bs
+  where
+    by_case : (o : Option ℕ) → substitute_in family b ≡ o → is_by_way_of family c d b ≡ false
+    by_case None none = ap (λ (o : Option ℕ). is_reached_from family o d && is_directly_below family c b) none
+    by_case (Some s) some =
+        (let other = all_substitutes family b s some builtins.Object in
+        let no : None ≡ Some other.0 = sym gone ∙ other.1 in
+        absurd cc)
+
 module _ (family : Family) (fits : IsFamily family) (within : AreParentsWithin family) where
   -- what stands at the end of an ancestor
   end_above : (c m : ℕ) (e : BuiltIn) → IsAncestor family c m → superclass_in family m ≡ Some (super.BuiltIn e)

@@ -82,9 +82,19 @@ impl Hierarchy {
         self.is_beyond(class, other)
     }
 
-    /// Whether the second of two given classes is reached by way of a substitute. The first one on the way is that of
-    /// the built-in class at the end of the superclasses, or that of one above a substitute.
+    /// Whether the second of two given classes is reached by way of a substitute. Without the library there is none.
     fn is_beyond(&self, class: u32, other: u32) -> bool
+        ensures { result ≡ list_any (is_by_way_of self.now.family class other) all_built_in }
+    {
+        match self.substitute(BuiltIn::Object) {
+            Some(_) => self.is_by_way_of_one(class, other),
+            None => false,
+        }
+    }
+
+    /// The same where the library is there. The first substitute on the way is that of the built-in class at the end of
+    /// the superclasses, or that of one above a substitute.
+    fn is_by_way_of_one(&self, class: u32, other: u32) -> bool
         ensures { result ≡ list_any (is_by_way_of self.now.family class other) all_built_in }
     {
         BuiltIn::all()
