@@ -70,18 +70,31 @@ impl Hierarchy {
         ensures { Search self.now.family (field_in self.now.family (sought_name sought.entry)) (class ∷ []) found
             → ResolvesField self.now.family (sought_name sought.entry) (class_ids.Given class) result }
     {
-        if let Some(DeclaredMember { class, index }) = found {
-            return Some(Field::Given { class, index });
+        match found {
+            Some(DeclaredMember { class, index }) => Some(Field::Given { class, index }),
+            None => self.is_out_of(class, sought).then_some(Field::Out),
         }
-        let of_system = self.is_system(class) && is_out(sought);
-        of_system.then_some(Field::Out)
+    }
+
+    /// Whether a given class is the substitute of System, and this is the name and the descriptor of `System.out`.
+    fn is_out_of(&self, class: u32, sought: Sought<'_>) -> bool
+        ensures { IsTrue result ↔ ((substitute_in self.now.family builtins.System ≡ Some class)
+            × (sought_name sought.entry ≡ out_key)) }
+    {
+        if !self.is_system(class) {
+            return false;
+        }
+        is_out(sought)
     }
 
     /// Whether a given class is the substitute of System.
     fn is_system(&self, class: u32) -> bool
         ensures { IsTrue result ↔ (substitute_in self.now.family builtins.System ≡ Some class) }
     {
-        self.substitute(BuiltIn::System) == Some(class)
+        match self.substitute(BuiltIn::System) {
+            Some(given) => given == class,
+            None => false,
+        }
     }
 }
 
