@@ -27,7 +27,8 @@ OthersStayIf old new (Some name) = OthersStay old new name.now
 abbrev pub OnlyOutputsChange : Contents → Contents → Request → Type 0
 OnlyOutputsChange old new (requests.Build words) =
     (other : List ℕ) → other ≢ words.image.now → IfSome words.report (λ name. other ≢ name.now)
-    → new other ≡ old other
+    → IfSome words.page (λ name. other ≢ name.now) → new other ≡ old other
+OnlyOutputsChange old new (requests.Report words) = OthersStayIf old new words.page
 OnlyOutputsChange old new (requests.Renew words) = OthersStay old new words.new.now
 OnlyOutputsChange old new (requests.Run words) = OthersStayIf old new words.journal
 OnlyOutputsChange old new _ = new ≡ old

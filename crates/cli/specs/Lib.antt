@@ -25,4 +25,5 @@ pub mod Audits
 pub mod Explanations
 pub mod Inspections
 pub mod Lists
+pub mod Pages
 pub mod Left

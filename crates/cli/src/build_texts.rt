@@ -21,6 +21,7 @@ ghost use Rattle.cli.specs.steps.Left.{LeavesTexts};
 use crate::builds::build;
 use crate::files::put;
 use crate::image_build::GREATEST_LENGTH;
+use crate::pages::{page_bytes, put_page};
 use crate::reporting::report_bytes;
 use crate::totals::tell_totals;
 use crate::watching::Watched;
@@ -31,6 +32,13 @@ use std::alloc::{AllocError, Global};
 use std::sync::Wait;
 use std::thread::Threads;
 
+/// Which texts of a build are wanted besides the image's.
+#[derive(Clone, Copy)]
+pub(crate) struct Wanted {
+    pub(crate) report: bool,
+    pub(crate) page: bool,
+}
+
 /// The texts of a build.
 #[derive(Drop)]
 pub(crate) struct BuildTexts {
@@ -38,6 +46,8 @@ pub(crate) struct BuildTexts {
     pub image: Vec<u8>,
     /// The report, where it is wanted.
     pub report: Vec<u8>,
+    /// The page, where it is wanted.
+    pub page: Vec<u8>,
 }
 
 /// Builds as `build` does, and answers the texts of it.
@@ -51,13 +61,13 @@ pub(crate) fn build_texts<H: Watch + Sync, R: Threads + Wait + Sync>(
     options: &BuildOptions<'_>,
     workers: u32,
     watch: &H,
-    reports: bool,
+    wanted: Wanted,
 ) -> Result<BuildTexts, BuildFault>
     requires { AreAtMost GREATEST_LENGTH (texts_of files.now) }
     ensures { IfOk result (AreTextsOfBuild (texts_of files.now) options.now reports) }
 {
     match build(rt, alloc, files, options, workers, &Watched { watch }) {
-        Ok(built) => match texts_of_watched(alloc, &built, watch, reports) {
+        Ok(built) => match texts_of_watched(alloc, &built, options, watch, wanted) {
             Ok(texts) => Ok(texts),
             Err(_) => Err(BuildFault::Memory),
         },
@@ -69,8 +79,9 @@ pub(crate) fn build_texts<H: Watch + Sync, R: Threads + Wait + Sync>(
 fn texts_of_watched<H: Watch>(
     alloc: Global,
     built: &Built,
+    options: &BuildOptions<'_>,
     watch: &H,
-    reports: bool,
+    wanted: Wanted,
 ) -> Result<BuildTexts, AllocError>
     requires short { AreShort built.now.image.program.family }
     requires waves { GiveWaves built.now.image built.now.verdicts }
@@ -78,19 +89,31 @@ fn texts_of_watched<H: Watch>(
         → IfOk result (AreTextsOfBuild texts options reports) }
 {
     tell_totals(alloc, built, watch);
-    texts_of_build(alloc, built, reports)
+    texts_of_build(alloc, built, options, wanted)
 }
 
 /// The texts of a build.
-fn texts_of_build(alloc: Global, built: &Built, reports: bool) -> Result<BuildTexts, AllocError>
+fn texts_of_build(
+    alloc: Global,
+    built: &Built,
+    options: &BuildOptions<'_>,
+    wanted: Wanted,
+) -> Result<BuildTexts, AllocError>
     requires short { AreShort built.now.image.program.family }
     requires waves { GiveWaves built.now.image built.now.verdicts }
     ensures { (texts : List (List ℕ)) (options : Options) → IsBuildOfClassFiles texts options built.now
         → IfOk result (AreTextsOfBuild texts options reports) }
 {
     match image_bytes(alloc, built) {
-        Ok(image) => match report_if(alloc, built, reports) {
-            Ok(report) => Ok(BuildTexts { image, report }),
+        Ok(image) => match report_if(alloc, built, wanted.report) {
+            Ok(report) => match page_if(alloc, built, options, wanted.page) {
+                Ok(page) => Ok(BuildTexts {
+                    image,
+                    report,
+                    page,
+                }),
+                Err(error) => Err(error),
+            },
             Err(error) => Err(error),
         },
         Err(error) => Err(error),
@@ -122,6 +145,24 @@ fn report_if(alloc: Global, built: &Built, wanted: bool) -> Result<Vec<u8>, Allo
     }
 }
 
+/// The page of a build, if it is wanted.
+fn page_if(
+    alloc: Global,
+    built: &Built,
+    options: &BuildOptions<'_>,
+    wanted: bool,
+) -> Result<Vec<u8>, AllocError>
+    requires { GiveWaves built.now.image built.now.verdicts }
+    ensures { wanted ≡ true → IfOk result
+        (λ bytes. IsPageBy built.now (list_of options.now.run_time) options.now.budget bytes.items) }
+{
+    if wanted {
+        page_bytes(alloc, built, options.run_time, options.budget)
+    } else {
+        Ok(Vec::new(alloc))
+    }
+}
+
 /// Writes the texts of a build to the files that the words name, the image last.
 ///
 /// # Errors
@@ -139,6 +180,7 @@ pub(crate) fn write_texts<F: Files>(
     ensures left { IfErr result (λ refusal. LeavesTexts (F.holds files.old) (F.holds files.new) words.now.image.now
         words.now.report texts.now.report.items (refusal_status refusal)) }
 {
+    put_page(alloc, words.page, texts.page.as_slice(), files)?;
     match words.report {
         Some(name) => write_both(alloc, words.image, name, texts, files),
         None => put(alloc, words.image, texts.image.as_slice(), files),

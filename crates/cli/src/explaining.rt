@@ -50,7 +50,11 @@ fn patterns_of(alloc: Global, list: Option<&str>) -> Result<Patterns, OptionFaul
 }
 
 /// The classes that a list forces to run time.
-fn forced_by(alloc: Global, program: &Program, list: Option<&str>) -> Result<Forced, OptionFault>
+pub(crate) fn forced_by(
+    alloc: Global,
+    program: &Program,
+    list: Option<&str>,
+) -> Result<Forced, OptionFault>
     ensures { IfOk result
         (λ forced. AreClasses forced (IsForced program.now.family (patterns_in (text_of list.entry)))) }
 {

@@ -13,7 +13,7 @@ ghost use Rattle.cli.specs.Outputs.{IsReportApart};
 ghost use Rattle.cli.specs.Runs.{texts_of};
 ghost use Rattle.cli.specs.steps.Left.{status_of_done};
 
-use crate::build_texts::{build_texts, image_bytes, write_texts};
+use crate::build_texts::{Wanted, build_texts, image_bytes, write_texts};
 use crate::builds::build;
 use crate::files::contents;
 use crate::requested::{options_of, refusal_of};
@@ -82,7 +82,10 @@ pub(crate) fn run<R: Threads + Wait + Sync, F: Files, H: Watch + Sync>(
     let texts = contents(alloc, building.files.as_slice(), files, GREATEST_LENGTH)?;
     let options = options_of(building);
     watch.begin(Stage::Building);
-    let reports = words.report.is_some();
+    let wanted = Wanted {
+        report: words.report.is_some(),
+        page: words.page.is_some(),
+    };
     match build_texts(
         rt,
         alloc,
@@ -90,7 +93,7 @@ pub(crate) fn run<R: Threads + Wait + Sync, F: Files, H: Watch + Sync>(
         &options,
         words.workers,
         watch,
-        reports,
+        wanted,
     ) {
         Ok(made) => {
             watch.begin(Stage::Writing);

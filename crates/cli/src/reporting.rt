@@ -1,12 +1,13 @@
 //! The command `report`: a build in memory, and a line for each class.
 ghost use Rattle.std.specs.Prelude.{◌≡◌, IfOk};
-ghost use Rattle.cli.specs.Done.{IsReport};
+ghost use Rattle.cli.specs.Done.{HasPage, HasReport};
 ghost use Rattle.report.specs.Texts.{report_text};
 ghost use Rattle.report.specs.Waves.{GiveWaves};
 
+use crate::pages::{page_bytes, put_page};
 use crate::requested::asked_build;
 use crate::totals::tell_cures_and_totals;
-use crate::{Building, CommandFault, Files, Watch};
+use crate::{CommandFault, Files, Report, Watch};
 use building::Built;
 use report::render;
 use sinks::Out;
@@ -21,20 +22,39 @@ use std::thread::Threads;
 pub(crate) fn run<R: Threads + Wait + Sync, F: Files, H: Watch + Sync>(
     rt: &R,
     alloc: Global,
-    words: &Building<'_>,
+    words: &Report<'_>,
     files: &mut F,
     watch: &H,
 ) -> Result<Vec<u8>, CommandFault>
-    ensures report { IfOk result (λ bytes. IsReport (F.holds files.old) words.now bytes.items) }
-    ensures same { F.holds files.new ≡ F.holds files.old }
+    ensures { IfOk result (λ bytes. HasReport (F.holds files.old) (F.holds files.new) words.now bytes.items) }
 {
-    match asked_build(rt, alloc, words, files, watch) {
+    match asked_build(rt, alloc, &words.building, files, watch) {
         Ok(built) => {
             tell_cures_and_totals(alloc, &built, watch);
-            Ok(report_bytes(alloc, &built)?)
+            told(alloc, &built, words, files)
         }
         Err(refusal) => Err(refusal),
     }
+}
+
+/// Writes the page of a build, if it is asked for, and answers its report.
+fn told<F: Files>(
+    alloc: Global,
+    built: &Built,
+    words: &Report<'_>,
+    files: &mut F,
+) -> Result<Vec<u8>, CommandFault>
+    requires { GiveWaves built.now.image built.now.verdicts }
+    ensures { IfOk result (λ bytes. (bytes.items ≡ report_text built.now.image built.now.verdicts)
+        × HasPage (F.holds files.old) (F.holds files.new) words.now.page built.now words.now.building) }
+{
+    let report = report_bytes(alloc, built)?;
+    if words.page.is_some() {
+        let building = &words.building;
+        let page = page_bytes(alloc, built, building.run_time, building.budget)?;
+        put_page(alloc, words.page, page.as_slice(), files)?;
+    }
+    Ok(report)
 }
 
 /// The report of a build.
