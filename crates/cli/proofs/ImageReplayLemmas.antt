@@ -1,6 +1,6 @@
 -- What is wrong with an image, a journal or its replay, as refusals; and what a replay comes to.
-use Rattle.std.proofs.Common.{◌≡◌, ◌∙◌, ◌≢◌, ◌⊎◌, inl, inr, ℕ, List, Option, Result, Ok, Err, IfOk, sym, ap, subst, refl}
-use Rattle.std.proofs.Common.{arith}
+use Rattle.std.proofs.Common.{◌≡◌, ◌∙◌, ◌≢◌, ◌⊎◌, inl, inr, ℕ, List, Option, Some, None, Result, Ok, Err, IfOk}
+use Rattle.std.proofs.Common.{sym, ap, subst, refl, arith}
 use Rattle.std.specs.Io.KnownBytes.{Appends}
 use Rattle.vm_state.specs.Output.{Print, text_of}
 use Rattle.object_graph.specs.Images.{ImageTables}
@@ -27,6 +27,7 @@ use Rattle.cli.specs.declared.status.Status.{Status}
 use Rattle.cli.specs.Done.{HasReplayed}
 use Rattle.cli.specs.Entries.{entry_names}
 use Rattle.cli.specs.Files.{AreBytesOf, Contents}
+use Rattle.cli.specs.FirstSteps.{IsReplayedTo, Spells, SpellsFirst}
 use Rattle.cli.specs.ImageBuilds.{IsReadAsBuilt}
 use Rattle.cli.specs.ImageReplays.{IsNoReplay, IsReplayed, IsReplayOf, image, journal, entry, turn}
 use Rattle.cli.specs.ImageRuns.{IsSomeTextOf}
@@ -79,27 +80,55 @@ replayed_text bytes names text I (Ok r) of built program same journal shown = re
 }
 replayed_text bytes names text I (Err _) of built program same journal shown = tt
 
--- a replay of what files hold, where what it is made of is theirs
-pub replay_of : (holds : Contents) (words : Replay) (bytes text : List ℕ) (names : List (List ℕ))
-    (result : Result ImageReplay CommandFault) → AreBytesOf (holds words.image.now) bytes
-    → AreBytesOf (holds words.journal.now) text → names ≡ entry_names words.entries.now
-    → IfOk result (IsReplayed bytes names text) → IfOk result (IsReplayOf holds words)
-replay_of holds words bytes text names (Ok r) held told are is = record {
-  first = is.shown.first;
-  begun = record {
-    bytes = bytes;
-    held = held;
-    text = is.image;
-    built = is.built;
-    program = is.program;
-    start = subst (λ (ns : List (List ℕ)). IsImageStart r.image ns is.shown.first) are is.shown.start;
-  };
-  bytes = text;
-  held = told;
-  journal = is.journal;
-  shown = is.shown.has;
+-- the same of its first steps
+pub replayed_first : (steps : ℕ) (bytes : List ℕ) (names : List (List ℕ)) (text : List ℕ) (I : ImageTables)
+    (result : Result ImageReplay CommandFault) → IsSomeTextOf bytes I → IsReadAsBuilt bytes I → IsProgram I.program
+    → IfOk result (λ r. r.image ≡ I) → IfOk result (λ r. SpellsFirst steps text r.journal)
+    → IfOk result (λ r. IsImageReplay I names r.journal r.seen) → IfOk result (IsReplayedTo steps bytes names text)
+replayed_first steps bytes names text I (Ok r) of built program same journal shown = record {
+  image = subst (IsSomeTextOf bytes) (sym same) of;
+  built = subst (IsReadAsBuilt bytes) (sym same) built;
+  program = subst (λ (J : ImageTables). IsProgram J.program) (sym same) program;
+  journal = journal;
+  shown = subst (λ (J : ImageTables). IsImageReplay J names r.journal r.seen) (sym same) shown;
 }
-replay_of holds words bytes text names (Err _) held told are is = tt
+replayed_first steps bytes names text I (Err _) of built program same journal shown = tt
+
+-- replays of what files hold, where what they are made of is theirs
+module _ (holds : Contents) (words : Replay) (bytes text : List ℕ) (names : List (List ℕ))
+    (held : AreBytesOf (holds words.image.now) bytes) (told : AreBytesOf (holds words.journal.now) text)
+    (are : names ≡ entry_names words.entries.now) where
+  of_files : (r : ImageReplay) → IsSomeTextOf bytes r.image → IsReadAsBuilt bytes r.image → IsProgram r.image.program
+      → IsImageReplay r.image names r.journal r.seen → Spells words.at text r.journal → IsReplayOf holds words r
+  of_files r of built program shown spelled = record {
+    first = shown.first;
+    begun = record {
+      bytes = bytes;
+      held = held;
+      text = of;
+      built = built;
+      program = program;
+      start = subst (λ (ns : List (List ℕ)). IsImageStart r.image ns shown.first) are shown.start;
+    };
+    bytes = text;
+    held = told;
+    journal = spelled;
+    shown = shown.has;
+  }
+
+  pub replay_of : (result : Result ImageReplay CommandFault) → words.at ≡ None
+      → IfOk result (IsReplayed bytes names text) → IfOk result (IsReplayOf holds words)
+  replay_of (Ok r) all is =
+      of_files r is.image is.built is.program is.shown
+      (subst (λ (steps : Option ℕ). Spells steps text r.journal) (sym all) is.journal)
+  replay_of (Err _) all is = tt
+
+  pub first_of : (steps : ℕ) (result : Result ImageReplay CommandFault) → words.at ≡ Some steps
+      → IfOk result (IsReplayedTo steps bytes names text) → IfOk result (IsReplayOf holds words)
+  first_of steps (Ok r) some is =
+      of_files r is.image is.built is.program is.shown
+      (subst (λ (most : Option ℕ). Spells most text r.journal) (sym some) is.journal)
+  first_of steps (Err _) some is = tt
 
 module _ (holds : Contents) (words : Replay) (before after : Option (List ℕ)) (replay : ImageReplay) where
   -- a replay of which nothing has gone out, or all

@@ -26,7 +26,7 @@ use Rattle.cli.specs.declared.by_threads.Journaled.{Journaled}
 use Rattle.cli.specs.declared.fault.CommandFault.{CommandFault}
 use Rattle.cli.specs.declared.status.Status.{Status}
 use Rattle.cli.specs.declared.status.Status.TheVariants.{Done, Refused, Words, Failed, Stuck, Limit, Ended}
-use Rattle.cli.proofs.OutputLemmas.{both_written, has_built}
+use Rattle.cli.proofs.OutputLemmas.{both_written}
 use Rattle.cli.specs.steps.BuildTexts.{AreTextsOfBuild}
 use Rattle.cli.specs.steps.Left.{LeavesFile, LeavesJournal, LeavesRun, LeavesTexts, status_of_done}
 
@@ -317,10 +317,8 @@ image_run_left holds mid new words P first status same begun left =
     by Limit left = tt
     by Ended left = tt
 
--- ---- what functions of `build_texts`, `image_build` and `run` are proved by
+-- ---- what functions of `build_texts` and `run` are proved by
 
 pub ruleset of_both_texts = (both_written, report_left, image_refused_after)
-
-pub ruleset of_build = (has_built, build_left, unchanged)
 
 pub ruleset of_journal = (no_journal, journal_written, journal_refused)

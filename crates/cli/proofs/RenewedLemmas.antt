@@ -10,6 +10,9 @@ use Rattle.image_parser.specs.ImageFaults.{ImageFails}
 use Rattle.image_parser.specs.declared.image_fault.ImageFault.{ImageFault}
 use Rattle.image_parser.specs.declared.image_fault.ImageFault.TheVariants as image_faults
 use Rattle.image_writer.specs.ImageTexts.{told_of, text_of}
+use Rattle.command_line.specs.declared.request.Renew.{Renew}
+use Rattle.cli.specs.Done.{HasRenewed}
+use Rattle.cli.specs.Files.{AreBytesOf, Contents, OthersStay}
 use Rattle.cli.specs.Renewals.{IsNoImage, IsRenewed, no_image}
 use Rattle.cli.specs.declared.fault.CommandFault.{CommandFault}
 use Rattle.cli.specs.declared.fault.CommandFault.TheVariants.{Image, Memory}
@@ -42,3 +45,17 @@ refused_renewal bytes fault r (inl e) memory other = inl (memory e)
 refused_renewal bytes image_faults.Memory r (inr fails) memory other = inl (memory refl)
 refused_renewal bytes fault r (inr fails) memory other =
     inr (subst (λ (x : CommandFault). IsNoImage bytes x) (sym (other (λ e. cc))) (no_image fails))
+
+-- ---- the file that gets it
+
+pub has_renewed : (old mid new : Contents) (words : Renew) (bytes renewed : List ℕ)
+    → AreBytesOf (old words.image.now) bytes → IsRenewed bytes renewed → mid ≡ old
+    → AreBytesOf (new words.new.now) renewed → OthersStay mid new words.new.now → HasRenewed old new words
+has_renewed old mid new words bytes renewed held is same made others = record {
+  bytes = bytes;
+  held = held;
+  renewed = renewed;
+  is = is;
+  written = made;
+  others = subst (λ (h : Contents). OthersStay h new words.new.now) same others;
+}

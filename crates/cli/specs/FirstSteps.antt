@@ -5,6 +5,7 @@ use Rattle.init_engine.specs.Schedules.{schedule_of}
 use Rattle.journal.specs.Journals.{IsJournalOf}
 use Rattle.image_runner.specs.Replays.{IsImageReplay}
 use Rattle.cli.specs.declared.image_replay.ImageReplay.{ImageReplay}
+use Rattle.cli.specs.ImageBuilds.{IsReadAsBuilt}
 use Rattle.cli.specs.ImageRuns.{IsSomeTextOf}
 
 -- A text spells a schedule, and these are the runs of its first steps, at most so many.
@@ -23,6 +24,7 @@ Spells (Some steps) text runs = SpellsFirst steps text runs
 pub record IsReplayedTo (steps : ℕ) (bytes : List ℕ) (names : List (List ℕ)) (text : List ℕ) (replay : ImageReplay)
     : Type 0 where
   pub image : IsSomeTextOf bytes replay.image
+  pub built : IsReadAsBuilt bytes replay.image
   pub program : IsProgram replay.image.program
   pub journal : SpellsFirst steps text replay.journal
   pub shown : IsImageReplay replay.image names replay.journal replay.seen

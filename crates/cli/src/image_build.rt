@@ -65,7 +65,7 @@ pub fn build_image<G: Gate, R: Threads + Wait + Sync>(
 /// # Errors
 /// The first refusal: a file, the budget, the workers, a class file, linking, a list of patterns, an output, or memory.
 /// A file that is longer than a class file of an image is refused as one that can't be read.
-#[tactic(auto, using(crate::proofs::LeftLemmas::of_build))]
+#[tactic(auto, using(crate::proofs::LeftLemmas::unchanged))]
 pub(crate) fn run<R: Threads + Wait + Sync, F: Files, H: Watch + Sync>(
     rt: &R,
     alloc: Global,

@@ -52,6 +52,7 @@ pub(crate) fn tell_limit<E: Errors>(
 ) -> Status
     requires { status ≢ Status.Words }
     ensures words { result ≢ Status.Words }
+    ensures told { (result ≡ status) ⊎ (IsOver status × (result ≡ Status.Refused)) }
     ensures done { IsOver result → result ≡ status }
 {
     if !(is_verbose && matches!(status, Status::Limit)) {
