@@ -147,7 +147,8 @@ HasPage old new None answer words = new ≡ old
 HasPage old new (Some name) answer words = IsPageIn old new name.now answer words
 
 -- The file of the image holds the text of one that is built of the class files, as the words say, and that of the
--- report, where the words name one, the report on the same build; the page was written before these.
+-- report, where the words name one, the report on the same build. Where they name one for a page, it was written before
+-- these, and has a name of its own (`IsPageApart`).
 pub record HasBuilt (old new : Contents) (words : Build) : Type 0 where
   pub answer : Built
   pub asked : IsAskedBuild old words.building answer

@@ -15,8 +15,9 @@ ghost use Rattle.cli.specs.ImageBuilds.{AreAtMost, IsBuiltText};
 ghost use Rattle.cli.specs.ImageRuns.{IsTextOf};
 ghost use Rattle.cli.specs.Outputs.{IsReportApart};
 ghost use Rattle.cli.specs.Runs.{texts_of};
-ghost use Rattle.cli.specs.steps.BuildTexts.{AreTextsOfBuild};
-ghost use Rattle.cli.specs.steps.Left.{LeavesTexts};
+ghost use Rattle.cli.specs.Pages.{IsPageBy};
+ghost use Rattle.cli.specs.steps.BuildTexts.{AreAllWritten, AreTextsOfBuild};
+ghost use Rattle.cli.specs.steps.Left.{LeavesAll, LeavesTexts};
 
 use crate::builds::build;
 use crate::files::put;
@@ -64,7 +65,7 @@ pub(crate) fn build_texts<H: Watch + Sync, R: Threads + Wait + Sync>(
     wanted: Wanted,
 ) -> Result<BuildTexts, BuildFault>
     requires { AreAtMost GREATEST_LENGTH (texts_of files.now) }
-    ensures { IfOk result (AreTextsOfBuild (texts_of files.now) options.now reports) }
+    ensures { IfOk result (AreTextsOfBuild (texts_of files.now) options.now wanted) }
 {
     match build(rt, alloc, files, options, workers, &Watched { watch }) {
         Ok(built) => match texts_of_watched(alloc, &built, options, watch, wanted) {
@@ -85,8 +86,8 @@ fn texts_of_watched<H: Watch>(
 ) -> Result<BuildTexts, AllocError>
     requires short { AreShort built.now.image.program.family }
     requires waves { GiveWaves built.now.image built.now.verdicts }
-    ensures { (texts : List (List ℕ)) (options : Options) → IsBuildOfClassFiles texts options built.now
-        → IfOk result (AreTextsOfBuild texts options reports) }
+    ensures { (texts : List (List ℕ)) → IsBuildOfClassFiles texts options.now built.now
+        → IfOk result (AreTextsOfBuild texts options.now wanted) }
 {
     tell_totals(alloc, built, watch);
     texts_of_build(alloc, built, options, wanted)
@@ -101,8 +102,8 @@ fn texts_of_build(
 ) -> Result<BuildTexts, AllocError>
     requires short { AreShort built.now.image.program.family }
     requires waves { GiveWaves built.now.image built.now.verdicts }
-    ensures { (texts : List (List ℕ)) (options : Options) → IsBuildOfClassFiles texts options built.now
-        → IfOk result (AreTextsOfBuild texts options reports) }
+    ensures { (texts : List (List ℕ)) → IsBuildOfClassFiles texts options.now built.now
+        → IfOk result (AreTextsOfBuild texts options.now wanted) }
 {
     match image_bytes(alloc, built) {
         Ok(image) => match report_if(alloc, built, wanted.report) {
@@ -163,12 +164,29 @@ fn page_if(
     }
 }
 
-/// Writes the texts of a build to the files that the words name, the image last.
+/// Writes the texts of a build to the files that the words name: the page first, and the image last.
 ///
 /// # Errors
 /// `File` of the first that can't be written, or memory.
-#[tactic(auto, using(crate::proofs::LeftLemmas::image_refused))]
+#[tactic(auto, using(crate::proofs::LeftLemmas::of_all_texts))]
 pub(crate) fn write_texts<F: Files>(
+    alloc: Global,
+    words: &Build<'_>,
+    texts: &BuildTexts,
+    files: &mut F,
+) -> Result<(), CommandFault>
+    requires { IsReportApart words.now }
+    ensures written { OnOk result (AreAllWritten (F.holds files.old) (F.holds files.new) words.now texts.now) }
+    ensures left { IfErr result (λ refusal. LeavesAll (F.holds files.old) (F.holds files.new) words.now texts.now
+        (refusal_status refusal)) }
+{
+    put_page(alloc, words.page, texts.page.as_slice(), files)?;
+    write_with_report(alloc, words, texts, files)
+}
+
+/// Writes the text of an image and, where the words name a file for it, the report before it.
+#[tactic(auto, using(crate::proofs::LeftLemmas::image_refused))]
+fn write_with_report<F: Files>(
     alloc: Global,
     words: &Build<'_>,
     texts: &BuildTexts,
@@ -180,7 +198,6 @@ pub(crate) fn write_texts<F: Files>(
     ensures left { IfErr result (λ refusal. LeavesTexts (F.holds files.old) (F.holds files.new) words.now.image.now
         words.now.report texts.now.report.items (refusal_status refusal)) }
 {
-    put_page(alloc, words.page, texts.page.as_slice(), files)?;
     match words.report {
         Some(name) => write_both(alloc, words.image, name, texts, files),
         None => put(alloc, words.image, texts.image.as_slice(), files),

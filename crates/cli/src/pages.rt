@@ -1,14 +1,16 @@
 //! The page of a build.
-ghost use Rattle.std.specs.Prelude.{◌≡◌, IfOk, OnOk};
+ghost use Rattle.std.specs.Prelude.{IfErr, IfOk, OnOk};
 ghost use Rattle.building.specs.Builds.{text_of};
+ghost use Rattle.cli.specs.CommandFault.{refusal_status};
+ghost use Rattle.cli.specs.Left.{OthersStayIf};
 ghost use Rattle.cli.specs.Pages.{IsPageBy, IsPagePut};
+ghost use Rattle.cli.specs.steps.Left.{LeavesIf};
 ghost use Rattle.report.specs.Waves.{GiveWaves};
 
 use crate::explaining::forced_by;
 use crate::files::put;
 use crate::{CommandFault, Files};
 use building::Built;
-use options::OptionFault;
 use report_page::page;
 use std::alloc::{AllocError, Global};
 
@@ -42,7 +44,10 @@ pub(crate) fn put_page<F: Files>(
     page: &[u8],
     files: &mut F,
 ) -> Result<(), CommandFault>
-    ensures { OnOk result (IsPagePut (F.holds files.old) (F.holds files.new) name page.now) }
+    ensures put { OnOk result (IsPagePut (F.holds files.old) (F.holds files.new) name page.now) }
+    ensures others { OthersStayIf (F.holds files.old) (F.holds files.new) name }
+    ensures left { IfErr result
+        (λ refusal. LeavesIf (F.holds files.old) (F.holds files.new) name (refusal_status refusal)) }
 {
     match name {
         Some(name) => put(alloc, name, page, files),

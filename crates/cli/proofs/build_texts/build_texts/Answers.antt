@@ -12,4 +12,4 @@ texts_of_build-requires g c = record {
 
 pub returns-in-Ok-texts_of_build : goal.returns-in-Ok-texts_of_build
 returns-in-Ok-texts_of_build g c =
-    c.in-Ok-texts_of_build.ensures (texts_of c.args.files.now) c.args.options.now c.in-Ok.ensures.build
+    c.in-Ok-texts_of_build.ensures (texts_of c.args.files.now) c.in-Ok.ensures.build
