@@ -122,8 +122,7 @@ const PAGE: Argument = Argument::Text {
     name: "page",
     value: "FILE",
     is_required: false,
-    help: "The file that gets a page of HTML: totals, pictures, and a table of all classes, each with what 'preinit \
-           explain all' tells of it",
+    help: "The file that gets the build as a page of HTML",
 };
 
 const WORKERS: Argument = Argument::Number {

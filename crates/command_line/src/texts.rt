@@ -30,7 +30,8 @@ Standard output gets nothing. The image is the same for any order of the class f
 can't be written, the file is named as it was given: 'preinit: File app.img'. So is a class file of 2^32 bytes or more.
 A number of workers outside 1 to 64 is refused: 'preinit: Wave Workers'.
 
-With --report the report of this build is written, before the image. With --verbose standard error gets a last line: how
+With --report the report of this build is written, before the image, and with --page, before both, a page of HTML of it:
+totals, pictures, and a table of all classes, each with what 'preinit explain all' shows of it. With --verbose standard error gets a last line: how
 many classes are initialized, with how many objects and bytes, how many are left by each reason, and how much time and
 memory it took.
 
@@ -84,6 +85,9 @@ another class, at more than an array's length or an enum constant's name and ord
 
 An option is refused as Empty and the index of an item, Unknown and the item, Both and a class that is requested for
 both times, or Demanded and a class that can't be initialized at build time, with the reason.
+
+With --page a page of HTML is written before: totals, pictures, and a table of all classes, each with what 'preinit
+explain all' shows of it. It loads nothing from elsewhere.
 
 With --verbose standard error gets what can be done about each reason that stands, and then a line on what the build came
 to: how many classes are initialized, with how many objects and bytes, how many are left by each reason, and how much time
