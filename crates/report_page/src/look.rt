@@ -12,9 +12,9 @@ font:15px/1.5 system-ui,sans-serif;font-variant-numeric:tabular-nums}
 h1{font-size:26px;line-height:1.25;margin:0 0 4px}
 h2{font-size:18px;margin:36px 0 2px}
 p{margin:0 0 12px;color:var(--soft);max-width:75ch}
-dl{display:grid;grid-template-columns:repeat(auto-fit,minmax(150px,1fr));gap:1px;margin:18px 0 0;
-background:var(--line);border:1px solid var(--line);border-radius:6px;overflow:hidden}
-dl div{background:var(--face);padding:10px 14px}
+dl{display:grid;grid-template-columns:repeat(auto-fit,minmax(150px,1fr));margin:18px 0 0;
+border:1px solid var(--line);border-radius:6px;overflow:hidden}
+dl div{margin:0 -1px -1px 0;border:solid var(--line);border-width:0 1px 1px 0;padding:10px 14px}
 dt{color:var(--soft);font-size:13px}
 dd{margin:0;font-size:22px;line-height:1.3}
 .two{display:grid;grid-template-columns:repeat(auto-fit,minmax(min(340px,100%),1fr));gap:0 40px}
@@ -109,17 +109,25 @@ function show() {
   by('shown').textContent = many(found.length) + ' of ' + many(all.length);
 }
 
+// Whether a row fits what is searched for: a part of a name or of a reason, or some waves.
+function fitting(word) {
+  const [, kind, number] = word.match(/^(wave|waves from) (\d+)$/) || [];
+  if (kind === 'wave') return ([name, when, wave]) => wave === number;
+  if (kind) return ([name, when, wave]) => wave && Number(wave) >= Number(number);
+  return ([name, when, wave, reason]) => (name + ' ' + reason).toLowerCase().includes(word);
+}
+
 function sift() {
-  const word = find.value.trim().toLowerCase(), at = which.value;
-  found = !word && !at ? sorted : sorted.filter(row => {
-    const [name, when, wave, reason] = words[place.get(row)];
-    return (!at || when === at) && (name + ' ' + (wave ? 'wave ' + wave : reason)).toLowerCase().includes(word);
+  const fits = fitting(find.value.trim().toLowerCase()), at = which.value;
+  found = sorted.filter(row => {
+    const cells = words[place.get(row)];
+    return (!at || cells[1] === at) && fits(cells);
   });
   count = FEW;
   show();
 }
 
-function sort(column) {
+function sort_by(column) {
   const texts = column < 4 && column !== 2, first = texts ? 'ascending' : 'descending';
   const up = (heads[column].getAttribute('aria-sort') === first) !== texts;
   const value = cell => texts ? cell : cell === '' ? -1 : Number(cell);
@@ -153,8 +161,8 @@ function place_name(link) {
 
 heads.forEach((head, column) => {
   head.tabIndex = 0;
-  head.onclick = () => sort(column);
-  head.onkeydown = event => { if (event.key === 'Enter') sort(column); };
+  head.onclick = () => sort_by(column);
+  head.onkeydown = event => { if (event.key === 'Enter') sort_by(column); };
 });
 find.oninput = which.onchange = sift;
 more.onclick = () => { count += FEW; show(); };
