@@ -115,8 +115,8 @@ and of one that is initialized at build time:
                                     keeps, and the bytes of its region
 
 Of 'all' classes it shows the same without calls, without the instruction at which the run of an initializer ended, and
-with the ends of such chains alone, and then the ten classes because of which the most others are initialized at run
-time: '12 depend on app/Clock'.
+with the ends of such chains alone; then the ten classes because of which the most others are initialized at run time:
+'12 depend on app/Clock'; and then what each class cost that is initialized at build time, the dearest first.
 
 For example: preinit explain app.Main app/Main.class app/Table.class";
 
