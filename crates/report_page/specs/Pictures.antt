@@ -63,5 +63,5 @@ picture_text family picture = codes "<div class=\"wide\"><svg class=\"net\" widt
     ++ (codes "\" height=\"" ++ (decimal picture.height
     ++ (codes "\" viewBox=\"0 0 " ++ (decimal picture.width
     ++ (codes " " ++ (decimal picture.height
-    ++ (codes "\" role=\"img\">\n" ++ (flat_map link_text picture.links.items
+    ++ (codes "\">\n" ++ (flat_map link_text picture.links.items
     ++ (flat_map (λ node. node_text family node) picture.nodes.items ++ codes "</svg></div>\n"))))))))))

@@ -172,6 +172,6 @@ pub(crate) fn picture_text(
     let height = picture.height;
     format!(in alloc;
         "<div class=\"wide\"><svg class=\"net\" width=\"{width}\" height=\"{height}\" \
-         viewBox=\"0 0 {width} {height}\" role=\"img\">\n{links}{nodes}</svg></div>\n"
+         viewBox=\"0 0 {width} {height}\">\n{links}{nodes}</svg></div>\n"
     )
 }

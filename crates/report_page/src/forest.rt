@@ -116,7 +116,9 @@ fn place_of(next: Waiting, rows: &mut Rows) -> Above {
     rows[column] = row.saturating_add(1);
     let left = (column as u32).saturating_mul(COLUMN);
     let at = Point {
-        x: next.level.saturating_mul(INDENT).saturating_add(left + 1),
+        x: left
+            .saturating_add(next.level.saturating_mul(INDENT))
+            .saturating_add(1),
         y: row.saturating_mul(ROW).saturating_add(1),
     };
     Above { at, column }

@@ -30,7 +30,7 @@ svg .n{fill:var(--soft)}
 .net rect{fill:var(--band);stroke:var(--line)}
 .net a:hover rect,.net a:focus rect{fill:var(--wash);stroke:var(--tint)}
 .net path{fill:none;stroke:var(--tint);stroke-width:1.3;opacity:.45}
-section:has(.bars:empty),section:has(.net:not(:has(a))){display:none}
+section:has(.bars):not(:has(.bars rect)),section:has(.net):not(:has(.net a)){display:none}
 .find{display:flex;flex-wrap:wrap;gap:8px 10px;align-items:center;max-width:none}
 input,select,button{font:inherit;color:inherit;background:var(--face);border:1px solid var(--line);
 border-radius:5px;padding:6px 10px}
