@@ -32,12 +32,13 @@ const STEP: u32 = 22;
 
 const LONGEST: usize = 180;
 
-/// How long a bar is beside the longest one.
+/// How long a bar is beside the longest one, if only as long as can be seen.
 fn length_of(count: usize, greatest: usize) -> usize {
     if greatest == 0 {
         return 0;
     }
-    count.min(greatest).saturating_mul(LONGEST) / greatest
+    let length = count.min(greatest).saturating_mul(LONGEST) / greatest;
+    length.max(2)
 }
 
 impl Bars {

@@ -10,7 +10,7 @@ use std::alloc::{AllocError, Global};
 /// How many classes a picture has, how many of those that depend on one, and how many levels of these.
 const MOST: u32 = 60;
 
-const MOST_OF_ONE: u32 = 4;
+const MOST_OF_ONE: usize = 4;
 
 const LEVELS: u32 = 5;
 
@@ -53,27 +53,36 @@ fn depends_on(verdict: Verdict, class: u32) -> bool {
     }
 }
 
-/// Adds those that depend on a class, up to a few.
+/// The first few classes that depend on a class.
+fn dependents_of(alloc: Global, verdicts: &[Verdict], class: u32) -> Result<Vec<u32>, AllocError> {
+    let mut few = Vec::new(alloc);
+    for (number, verdict) in verdicts.iter().enumerate() {
+        let Ok(other) = u32::try_from(number) else {
+            return Ok(few);
+        };
+        if few.len() < MOST_OF_ONE && depends_on(*verdict, class) {
+            few.push(other)?;
+        }
+    }
+    Ok(few)
+}
+
+/// Has the first few that depend on a class drawn next, in their order.
 fn add_dependents(
+    alloc: Global,
     verdicts: &[Verdict],
     of: Waiting,
     above: Above,
     waiting: &mut Vec<Waiting>,
 ) -> Result<(), AllocError> {
-    let mut few = 0;
-    for (number, verdict) in verdicts.iter().enumerate() {
-        let Ok(class) = u32::try_from(number) else {
-            return Ok(());
-        };
-        if few < MOST_OF_ONE && depends_on(*verdict, of.class) {
-            few += 1;
-            waiting.push(Waiting {
-                class,
-                level: of.level.saturating_add(1),
-                others: None,
-                above: Some(above),
-            })?;
-        }
+    let few = dependents_of(alloc, verdicts, of.class)?;
+    for class in few.iter().rev() {
+        waiting.push(Waiting {
+            class: *class,
+            level: of.level.saturating_add(1),
+            others: None,
+            above: Some(above),
+        })?;
     }
     Ok(())
 }
@@ -126,6 +135,7 @@ fn place_of(next: Waiting, rows: &mut Rows) -> Above {
 
 /// Adds a class to a picture, and those that depend on it to what is to be drawn.
 fn draw(
+    alloc: Global,
     verdicts: &[Verdict],
     next: Waiting,
     rows: &mut Rows,
@@ -138,13 +148,14 @@ fn draw(
     }
     picture.add(next.class, next.others, place.at)?;
     if next.level < LEVELS {
-        add_dependents(verdicts, next, place, waiting)?;
+        add_dependents(alloc, verdicts, next, place, waiting)?;
     }
     Ok(())
 }
 
 /// Draws what waits, up to so many classes.
 fn draw_all(
+    alloc: Global,
     verdicts: &[Verdict],
     waiting: &mut Vec<Waiting>,
     picture: &mut Picture,
@@ -154,7 +165,7 @@ fn draw_all(
         let Some(next) = waiting.pop() else {
             return Ok(());
         };
-        draw(verdicts, next, &mut rows, waiting, picture)?;
+        draw(alloc, verdicts, next, &mut rows, waiting, picture)?;
     }
     Ok(())
 }
@@ -178,6 +189,6 @@ pub(crate) fn forest(
             above: None,
         })?;
     }
-    draw_all(verdicts, &mut waiting, &mut picture)?;
+    draw_all(alloc, verdicts, &mut waiting, &mut picture)?;
     Ok(picture)
 }

@@ -10,9 +10,9 @@ use program::Program;
 use std::alloc::{AllocError, Global};
 
 /// How many classes a picture has, and how many columns.
-const MOST: usize = 40;
+const MOST: usize = 24;
 
-const COLUMNS: usize = 6;
+const COLUMNS: usize = 4;
 
 /// How far a column is to the right of the one before, and a row below the one before.
 const COLUMN: u32 = 336;
@@ -40,12 +40,18 @@ fn waves_of(alloc: Global, verdicts: &[Verdict], shown: &[Cost]) -> Result<Vec<u
     Ok(waves)
 }
 
-/// The column of a wave: its place among these, or the last column.
+/// The column of a wave, by its place among the waves that are shown: each has a column of its own, or where there are
+/// more of them some that follow one another share one.
 fn column_of(waves: &[usize], wave: usize) -> usize
-    ensures { result < 6 }
+    ensures { result < 4 }
 {
-    for (column, other) in waves.iter().enumerate() {
+    for (place, other) in waves.iter().enumerate() {
         if *other == wave {
+            let column = if waves.len() <= COLUMNS {
+                place
+            } else {
+                place.saturating_mul(COLUMNS) / waves.len()
+            };
             return column.min(COLUMNS - 1);
         }
     }
