@@ -93,8 +93,10 @@ pub(crate) fn replayed<F: Files>(
     let image = get(alloc, words.image, files)?;
     let journal = get(alloc, words.journal, files)?;
     let entries = entries_of(alloc, words.entries)?;
+    let names = entries.as_slice();
+    let text = journal.as_slice();
     match words.at {
-        Some(steps) => replay_first(alloc, image, entries.as_slice(), journal.as_slice(), steps),
-        None => replay_image(alloc, image, entries.as_slice(), journal.as_slice()),
+        Some(steps) => replay_first(alloc, image, names, text, steps),
+        None => replay_image(alloc, image, names, text),
     }
 }

@@ -55,27 +55,31 @@ pub(crate) fn tell_limit<E: Errors>(
     ensures told { (result ≡ status) ⊎ (IsOver status × (result ≡ Status.Refused)) }
     ensures done { IsOver result → result ≡ status }
 {
-    if !(is_verbose && matches!(status, Status::Limit)) {
-        return status;
-    }
-    match limit_line(alloc, runs) {
-        Ok(line) => {
-            errors.tell(line.as_str());
-            status
-        }
-        Err(_) => refuse(&CommandFault::Memory, errors),
+    if is_verbose && is_at_limit(status) {
+        tell_lines(limit_line(alloc, runs), status, errors)
+    } else {
+        status
     }
 }
 
+/// Whether a run that ends a command so was ended by its limit.
+fn is_at_limit(status: Status) -> bool
+    ensures { IsTrue result → IsOver status }
+{
+    matches!(status, Status::Limit)
+}
+
 /// How many steps a run had that its limit ended, and the option.
-fn limit_line(alloc: Global, runs: &[(u32, u64)]) -> Result<String, AllocError> {
+fn limit_line(alloc: Global, runs: &[(u32, u64)]) -> Result<String, CommandFault>
+    ensures { IfErr result (λ refusal. refusal_status refusal ≡ Status.Refused) }
+{
     let mut steps = 0u64;
     for run in runs {
         steps = steps.saturating_add(run.1);
     }
-    format!(in alloc;
+    Ok(format!(in alloc;
         "the run was ended after {steps} steps: --limit N lets it have another number\n"
-    )
+    )?)
 }
 
 /// Whether a run that ends a command so has threads that have not returned.
@@ -101,7 +105,7 @@ pub(crate) fn tell_lazy_stacks<E: Errors>(
     ensures done { IsOver result → result ≡ status }
 {
     if some_stand(status) {
-        tell_stacks(
+        tell_lines(
             lazy_stacks(alloc, program, list, told, runs),
             status,
             errors,
@@ -129,7 +133,7 @@ pub(crate) fn tell_image_stacks<E: Errors>(
     if some_stand(status)
         && let Some(first) = again
     {
-        tell_stacks(
+        tell_lines(
             stacks_from(alloc, program, first, told, runs),
             status,
             errors,
@@ -155,7 +159,7 @@ pub(crate) fn tell_replay_stacks<E: Errors>(
     ensures done { IsOver result → result ≡ status }
 {
     if some_stand(status) {
-        tell_stacks(
+        tell_lines(
             replay_stacks(alloc, image, list, told, runs),
             status,
             errors,
@@ -165,18 +169,18 @@ pub(crate) fn tell_replay_stacks<E: Errors>(
     }
 }
 
-/// Tells stacks after a run with this status.
-fn tell_stacks<E: Errors>(
-    stacks: Result<String, CommandFault>,
+/// Tells lines on a run that ends its command so.
+fn tell_lines<E: Errors>(
+    lines: Result<String, CommandFault>,
     status: Status,
     errors: &mut E,
 ) -> Status
     requires status { status ≢ Status.Words }
-    requires refusal { IfErr stacks (λ refusal. refusal_status refusal ≡ Status.Refused) }
+    requires refusal { IfErr lines (λ refusal. refusal_status refusal ≡ Status.Refused) }
     ensures words { result ≢ Status.Words }
     ensures told { (result ≡ status) ⊎ (result ≡ Status.Refused) }
 {
-    match stacks {
+    match lines {
         Ok(lines) => {
             errors.tell(lines.as_str());
             status
