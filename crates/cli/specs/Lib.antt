@@ -24,6 +24,7 @@ pub mod Outputs
 pub mod Audits
 pub mod Explanations
 pub mod Inspections
+pub mod Totals
 pub mod Lists
 pub mod Pages
 pub mod Left

@@ -4,12 +4,15 @@ ghost use Rattle.cli.specs.Audits.{IsAudit, IsAuditFrom, IsAuditOf};
 
 use crate::class_files::program_of_texts;
 use crate::files::contents;
+use crate::left_out::add_note;
 use crate::{Audit, CommandFault, Files, entries_of};
-use audit::{audit, audit_text};
+use audit::{EndPlace, audit, audit_text};
 use classfile::ClassName;
+use hierarchy::member::DeclaredMember;
 use init_engine::starting::entry_classes;
 use program::Program;
 use std::alloc::{AllocError, Global};
+use vm_state::ends::FaultKind;
 
 /// The text of an audit, and whether it found nothing.
 #[derive(Drop)]
@@ -17,6 +20,8 @@ pub(crate) struct Audited {
     pub(crate) text: Vec<u8>,
     /// There is no place where a thread may end so.
     pub(crate) is_clean: bool,
+    /// What is left out at these places, where that is asked for.
+    pub(crate) notes: String,
 }
 
 /// Reads the class files, and answers what their audit tells, as the words say.
@@ -34,7 +39,7 @@ pub(crate) fn run<F: Files>(
     let texts = contents(alloc, words.files.as_slice(), files, usize::MAX)?;
     let entries = entries_of(alloc, words.entries)?;
     match program_of_texts(alloc, texts) {
-        Ok(program) => audit_by_names(alloc, &program, entries.as_slice()),
+        Ok(program) => audit_by_names(alloc, &program, entries.as_slice(), words.verbose),
         Err(refusal) => Err(refusal),
     }
 }
@@ -44,11 +49,12 @@ fn audit_by_names(
     alloc: Global,
     program: &Program,
     entries: &[ClassName],
+    is_verbose: bool,
 ) -> Result<Audited, CommandFault>
     ensures { IfOk result (λ audited. IsAuditOf program.now entries.now audited.text.items audited.is_clean) }
 {
     match entry_classes(alloc, program, entries) {
-        Ok(classes) => Ok(audit_by_classes(alloc, program, classes.as_slice())?),
+        Ok(classes) => Ok(audit_by_classes(alloc, program, classes.as_slice(), is_verbose)?),
         Err(fault) => Err(CommandFault::of_entry(fault)),
     }
 }
@@ -58,13 +64,35 @@ fn audit_by_classes(
     alloc: Global,
     program: &Program,
     classes: &[u32],
+    is_verbose: bool,
 ) -> Result<Audited, AllocError>
     ensures { IfOk result (λ audited. IsAuditFrom program.now classes.now audited.text.items audited.is_clean) }
 {
     let places = audit(alloc, program, classes)?;
     let text = audit_text(alloc, program, places.as_slice())?;
+    let notes = if is_verbose {
+        notes_of(alloc, program, places.as_slice())?
+    } else {
+        String::new(alloc)
+    };
     Ok(Audited {
         text: text.into_bytes(),
         is_clean: places.is_empty(),
+        notes,
     })
+}
+
+/// What is left out at these places, a line for each of which more is to be said.
+fn notes_of(alloc: Global, program: &Program, places: &[EndPlace]) -> Result<String, AllocError> {
+    let mut notes = String::new(alloc);
+    for place in places {
+        if let FaultKind::Unsupported = place.kind {
+            let method = DeclaredMember {
+                class: place.class,
+                index: place.index,
+            };
+            add_note(alloc, program, method, place.pc, &mut notes)?;
+        }
+    }
+    Ok(notes)
 }

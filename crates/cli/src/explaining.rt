@@ -7,10 +7,12 @@ ghost use Rattle.explain.specs.AllTexts.{IsAllText};
 ghost use Rattle.options.specs.Classes.{AreClasses, IsForced};
 ghost use Rattle.report.specs.Waves.{GiveWaves};
 
+use crate::left_out::add_note;
 use crate::requested::asked_build;
 use crate::{Building, CommandFault, Explain, Files, Watch, entries_of};
 use building::Built;
-use explain::{all_text, class_text};
+use explain::{Knowledge, all_text, class_text};
+use hierarchy::member::DeclaredMember;
 use init_engine::EntryFault;
 use initializer_analysis::forced::Forced;
 use options::{OptionFault, Patterns, force, parse};
@@ -18,6 +20,7 @@ use program::Program;
 use std::alloc::{AllocError, Global};
 use std::sync::Wait;
 use std::thread::Threads;
+use use_graph::mark::Evidence;
 
 /// Reads the class files, builds an image, and answers what is to be told of its classes, as the words say.
 ///
@@ -34,8 +37,54 @@ pub(crate) fn run<R: Threads + Wait + Sync, F: Files, H: Watch + Sync>(
     ensures same { F.holds files.new ≡ F.holds files.old }
 {
     match asked_build(rt, alloc, &words.building, files, watch) {
-        Ok(built) => explanation(alloc, &built, &words.building, words.class),
+        Ok(built) => {
+            note_left_out(alloc, &built, words.class, watch);
+            explanation(alloc, &built, &words.building, words.class)
+        }
         Err(refusal) => Err(refusal),
+    }
+}
+
+/// Notes what is left out where the code of a class is unsupported, if more is to be told. Where memory is refused for
+/// it, it is not noted.
+fn note_left_out<H: Watch>(alloc: Global, built: &Built, class: &str, watch: &H)
+    requires { GiveWaves built.now.image built.now.verdicts }
+{
+    if watch.wants_more()
+        && let Ok(notes) = left_out_in(alloc, built, class)
+    {
+        watch.note(notes.as_str());
+    }
+}
+
+/// The line on what is left out where the code of a class is unsupported, if it is and more is to be said.
+fn left_out_in(alloc: Global, built: &Built, class: &str) -> Result<String, CommandFault>
+    requires { GiveWaves built.now.image built.now.verdicts }
+{
+    let program = built.image.program();
+    let mut notes = String::new(alloc);
+    if let Some(at) = unsupported_at(alloc, built, number_of(alloc, program, class)?)? {
+        let method = DeclaredMember {
+            class: at.class,
+            index: at.index,
+        };
+        add_note(alloc, program, method, Some(at.pc), &mut notes)?;
+    }
+    Ok(notes)
+}
+
+/// An instruction for which the code of a class is unsupported, if it has one.
+fn unsupported_at(alloc: Global, built: &Built, class: u32) -> Result<Option<Evidence>, AllocError>
+    requires { GiveWaves built.now.image built.now.verdicts }
+{
+    let program = built.image.program();
+    let verdicts = built.verdicts.as_slice();
+    let forced = Forced::none(alloc);
+    let mut known = Knowledge::of_program(alloc, program, verdicts)?;
+    let explanation = known.explain(alloc, program, verdicts, &forced, false, class)?;
+    match explanation.marks.unsupported {
+        Some(mark) => Ok(Some(mark.at)),
+        None => Ok(None),
     }
 }
 

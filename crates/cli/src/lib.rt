@@ -25,6 +25,7 @@ mod image_run;
 mod inspecting;
 pub mod laws;
 mod lazy;
+mod left_out;
 mod lists;
 mod meanings;
 mod outputs;

@@ -18,6 +18,9 @@ const WORKERS: &str = "there are 1 to 64 workers";
 /// The range of a limit.
 const LIMITS: &str = "the limit is a number from 1 to 1000000000000000";
 
+/// The range of the number of steps of a replay.
+const STEPS: &str = "the number of steps is from 0 to 1000000000000000";
+
 /// What is wrong with a file that does not begin as a class file does.
 pub(crate) const NO_CLASS_FILE: &str = "no class file, since it does not begin with CAFEBABE";
 
@@ -139,6 +142,8 @@ fn range_in(text: &str) -> Option<&'static str> {
         Some(WORKERS)
     } else if text.contains("' for '--limit <N>'") && !text.contains(" is not in ") {
         Some(LIMITS)
+    } else if text.contains("' for '--at <N>'") && !text.contains(" is not in ") {
+        Some(STEPS)
     } else {
         None
     }

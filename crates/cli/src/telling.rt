@@ -192,7 +192,10 @@ pub(crate) fn tell_audit<W: Write, E: Errors>(
 {
     match audit {
         Ok(audited) => match tell_text(audited.text.as_slice(), out, errors) {
-            Status::Done if !audited.is_clean => Status::Ended,
+            Status::Done if !audited.is_clean => {
+                errors.tell(audited.notes.as_str());
+                Status::Ended
+            }
             status => status,
         },
         Err(refusal) => refuse(&refusal, errors),

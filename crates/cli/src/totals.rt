@@ -1,123 +1,172 @@
-//! What a build comes to, as words.
+//! What a build comes to, in words.
+
+ghost use Rattle.std.specs.Prelude.{◌≡◌, ◌++◌, ◌<◌, ◌^◌, IfOk, OnOk, length};
+ghost use Rattle.std.specs.List.{count_by, flat_map, sum};
+ghost use Rattle.std.specs.String.{string_bytes};
+ghost use Rattle.image_writer.specs.ImageTexts.{region_sizes as sizes_in};
+ghost use Rattle.inspection.specs.Texts.{objects_below};
+ghost use Rattle.cli.specs.Totals.{count_text, cure_line, cures_text, is_built, is_left_by, left_by, left_text};
+ghost use Rattle.cli.specs.Totals.{totals_text};
+ghost use Rattle.cli.specs.declared.cures.TheConstants.{CURES as cures};
 
 use crate::Watch;
-use crate::cures::cure_of;
+use crate::cures::{CURES, Cure};
 use building::Built;
 use image_writer::region_sizes;
-use initializer_analysis::verdict::{Reason, Verdict};
+use initializer_analysis::verdict::Verdict;
 use object_graph::Image;
 use std::alloc::{AllocError, Global};
 
-/// A reason for which classes are left to run time, and how many are.
-#[derive(Clone, Copy)]
-struct Left {
-    word: &'static str,
-    cure: &'static str,
-    count: u32,
+fn is_built(verdict: Verdict) -> bool
+    ensures { result ≡ is_built verdict }
+{
+    matches!(verdict, Verdict::Wave(_))
 }
 
-/// Counts a class that is left by a reason.
-fn count_left(left: &mut Vec<Left>, reason: Reason) -> Result<(), AllocError> {
-    let word = reason.word();
-    for place in 0..left.len() {
-        if left[place].word == word {
-            left[place].count = left[place].count.saturating_add(1);
-            return Ok(());
+/// How many classes are initialized.
+fn built_count(verdicts: &[Verdict]) -> usize
+    ensures { result ≡ count_by is_built verdicts.now }
+{
+    let mut count = 0;
+    for place in 0..verdicts.len() {
+        if is_built(verdicts[place]) {
+            count += 1;
         }
     }
-    left.push(Left {
-        word,
-        cure: cure_of(reason),
-        count: 1,
-    })?;
-    Ok(())
+    count
 }
 
-/// How many classes are left by each reason, each with the first of its classes.
-fn left_by_reasons(alloc: Global, verdicts: &[Verdict]) -> Result<Vec<Left>, AllocError> {
-    let mut left = Vec::new(alloc);
-    for verdict in verdicts {
-        if let Verdict::Refused(reason) = verdict {
-            count_left(&mut left, *reason)?;
+/// Whether a class is left to run time for a reason of this word.
+fn is_left_by(word: &str, verdict: Verdict) -> bool
+    ensures { result ≡ is_left_by word.now verdict }
+{
+    match verdict {
+        Verdict::Wave(_) => false,
+        Verdict::Refused(reason) => reason.word() == word,
+    }
+}
+
+/// How many classes are.
+fn left_by(verdicts: &[Verdict], word: &str) -> usize
+    ensures { result ≡ left_by verdicts.now word.now }
+{
+    let mut count = 0;
+    for place in 0..verdicts.len() {
+        if is_left_by(word, verdicts[place]) {
+            count += 1;
         }
     }
-    Ok(left)
+    count
 }
 
-/// How many objects an image keeps.
-fn objects_of(image: &Image) -> u64 {
-    let mut objects = 0u64;
-    for class in 0..image.program().given_count() {
-        objects = objects.saturating_add(u64::from(image.object_count(class)));
+/// Adds how many classes are left by a reason, if any are.
+fn add_count(text: &mut String, word: &str, count: usize) -> Result<(), AllocError>
+    ensures { OnOk result (string_bytes text.new ≡ string_bytes text.old ++ count_text word.now count) }
+{
+    if count == 0 {
+        return Ok(());
+    }
+    write!(text, " {word} {count}")
+}
+
+/// How many classes are left by each reason.
+fn left_text(alloc: Global, verdicts: &[Verdict]) -> Result<String, AllocError>
+    ensures { IfOk result (λ text. string_bytes text ≡ flat_map (left_text verdicts.now) cures) }
+{
+    let mut text = String::new(alloc);
+    for place in 0..CURES.len() {
+        let cure = CURES[place];
+        add_count(&mut text, cure.word, left_by(verdicts, cure.word))?;
+    }
+    Ok(text)
+}
+
+/// How many objects the regions of the classes below a number hold.
+fn objects_below(image: &Image, count: u32) -> u64
+    ensures { result ≡ objects_below image.now count }
+{
+    let mut objects = 0;
+    for class in 0..count {
+        objects += u64::from(image.object_count(class));
     }
     objects
 }
 
-/// How many bytes the regions of an image take in its text.
-fn bytes_of(alloc: Global, image: &Image) -> Result<usize, AllocError> {
-    let mut bytes = 0usize;
-    let sizes = region_sizes(alloc, image)?;
-    for size in &sizes {
-        bytes = bytes.saturating_add(*size);
+/// How many bytes some regions take together.
+fn sum_of(sizes: &[usize]) -> u128
+    requires { length sizes.now < 2 ^ 32 }
+    ensures { result ≡ sum sizes.now }
+{
+    let mut bytes = 0;
+    for place in 0..sizes.len() {
+        bytes += sizes[place] as u128;
     }
-    Ok(bytes)
+    bytes
 }
 
-/// What a build comes to: how many classes are initialized, how many are left to run time by each reason, and the
-/// objects and bytes of those that are.
-fn totals_text(alloc: Global, built: &Built) -> Result<String, AllocError> {
-    let verdicts = built.verdicts.as_slice();
-    let left = left_by_reasons(alloc, verdicts)?;
-    let mut count = verdicts.len();
-    for reason in &left {
-        count = count.saturating_sub(reason.count as usize);
+/// How many bytes the regions of an image take in its text.
+fn bytes_of(alloc: Global, image: &Image) -> Result<u128, AllocError>
+    ensures { IfOk result (λ bytes. bytes ≡ sum (sizes_in image.now)) }
+{
+    let sizes = region_sizes(alloc, image)?;
+    Ok(sum_of(sizes.as_slice()))
+}
+
+/// What a build comes to: its classes, and how many are initialized, with how many objects and bytes; and how many are
+/// left to run time by each reason.
+fn totals_text(alloc: Global, image: &Image, verdicts: &[Verdict]) -> Result<String, AllocError>
+    ensures { IfOk result (λ text. string_bytes text ≡ totals_text image.now verdicts.now) }
+{
+    let classes = verdicts.len();
+    let built = built_count(verdicts);
+    let left = classes - built;
+    let family = image.program().family().classes();
+    let objects = objects_below(image, family.len() as u32);
+    let bytes = bytes_of(alloc, image)?;
+    let reasons = left_text(alloc, verdicts)?;
+    format!(in alloc;
+        "classes {classes} built {built} objects {objects} bytes {bytes} left {left}{reasons}"
+    )
+}
+
+/// Adds what can be done about a reason, if classes are left by it.
+fn add_cure(text: &mut String, cure: Cure, count: usize) -> Result<(), AllocError>
+    ensures { OnOk result (string_bytes text.new ≡ string_bytes text.old ++ cure_line cure count) }
+{
+    if count == 0 {
+        return Ok(());
     }
-    let objects = objects_of(&built.image);
-    let bytes = bytes_of(alloc, &built.image)?;
-    let mut text = format!(in alloc; "{count} classes built ({objects} objects, {bytes} bytes)")?;
-    let mut before = ", left ";
-    for reason in &left {
-        let word = reason.word;
-        let count = reason.count;
-        write!(text, "{before}{count} {word}")?;
-        before = ", ";
-    }
-    Ok(text)
+    let Cure { word, text: words } = cure;
+    writeln!(text, "{word}: {words}")
 }
 
 /// What can be done about the reasons that stand, a line for each.
-fn cures_text(alloc: Global, verdicts: &[Verdict]) -> Result<String, AllocError> {
+fn cures_text(alloc: Global, verdicts: &[Verdict]) -> Result<String, AllocError>
+    ensures { IfOk result (λ text. string_bytes text ≡ cures_text verdicts.now) }
+{
     let mut text = String::new(alloc);
-    let left = left_by_reasons(alloc, verdicts)?;
-    for reason in &left {
-        let word = reason.word;
-        let cure = reason.cure;
-        writeln!(text, "{word}: {cure}")?;
+    for place in 0..CURES.len() {
+        let cure = CURES[place];
+        add_cure(&mut text, cure, left_by(verdicts, cure.word))?;
     }
     Ok(text)
 }
 
-/// What can be done about the reasons that stand, and then what a build comes to.
-fn cures_and_totals(alloc: Global, built: &Built) -> Result<String, AllocError> {
-    let mut text = cures_text(alloc, built.verdicts.as_slice())?;
-    text.push_str(&totals_text(alloc, built)?)?;
-    Ok(text)
-}
-
-/// Tells what a build comes to, where that is wanted. Where memory is refused for it, it is not told.
+/// Tells what a build comes to, if more is to be told. Where memory is refused for it, it is not told.
 pub(crate) fn tell_totals<H: Watch>(alloc: Global, built: &Built, watch: &H) {
-    if watch.wants_totals()
-        && let Ok(text) = totals_text(alloc, built)
+    if watch.wants_more()
+        && let Ok(text) = totals_text(alloc, &built.image, built.verdicts.as_slice())
     {
         watch.built(text.as_str());
     }
 }
 
-/// Tells the same, after what can be done about the reasons that stand.
+/// Tells what can be done about the reasons that stand, and what the build comes to, if more is to be told.
 pub(crate) fn tell_cures_and_totals<H: Watch>(alloc: Global, built: &Built, watch: &H) {
-    if watch.wants_totals()
-        && let Ok(text) = cures_and_totals(alloc, built)
+    if watch.wants_more()
+        && let Ok(text) = cures_text(alloc, built.verdicts.as_slice())
     {
-        watch.built(text.as_str());
+        watch.note(text.as_str());
     }
+    tell_totals(alloc, built, watch);
 }

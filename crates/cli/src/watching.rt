@@ -43,13 +43,17 @@ pub trait Watch {
     /// A class was initialized, or refused.
     fn done(&self);
 
-    /// Whether it is to be told what the build came to.
-    fn wants_totals(&self) -> bool;
+    /// Whether more is to be told than the result.
+    fn wants_more(&self) -> bool;
+
+    /// Lines that are told once the build is over.
+    fn note(&self, lines: &str);
 
     /// What the build came to, in words.
     fn built(&self, totals: &str);
 
-    /// The line on what the build came to, and on what it took. None where that is not wanted, or not known.
+    /// The lines that were noted, and then one on what the build came to and what it took. None where more is not
+    /// wanted, or not known.
     fn summary(&self, alloc: Global) -> Option<String>;
 
     /// The work of the build now, in words that follow 'while'. None where it is not known or memory is refused for it.
@@ -71,9 +75,11 @@ impl Watch for Unwatched {
 
     fn done(&self) {}
 
-    fn wants_totals(&self) -> bool {
+    fn wants_more(&self) -> bool {
         false
     }
+
+    fn note(&self, _lines: &str) {}
 
     fn built(&self, _totals: &str) {}
 

@@ -1,7 +1,9 @@
 -- The first steps of a schedule, by its runs.
-use Rattle.std.proofs.Common.{◌≡◌, ◌≢◌, ◌∙◌, ℕ, zero, suc, ◌+◌, ◌<◌, ◌≤◌, ◌==◌, ◌++◌, List, [], ◌∷◌, length, replicate}
-use Rattle.std.proofs.Common.{take, drop, get_or, if◌then◌else◌, refl, sym, ap, subst, arith, length-append, append-nil}
-use Rattle.std.proofs.lemmas.List.{length-replicate, take-append-drop, take-append-le, take-replicate, take_all}
+use Rattle.std.proofs.Common.{◌≡◌, ◌∙◌, ℕ, zero, suc, ◌+◌, ◌-◌, ◌<◌, ◌≤◌, ◌==◌, ◌++◌, List, [], ◌∷◌, length}
+use Rattle.std.proofs.Common.{Bool, replicate, take, drop, get_or, if◌then◌else◌, sym, ap, subst, arith}
+use Rattle.std.proofs.Common.{length-append, append-nil}
+use Rattle.std.proofs.lemmas.List.{length-replicate, take-append-le, take-replicate}
+use Rattle.std.proofs.Math.Dec.{eqb-suc-zero}
 use Rattle.std.proofs.Math.Seq.{take-append-add}
 use Rattle.init_engine.specs.Schedules.{AreRuns, BeginsWithOther, schedule_of}
 use Rattle.init_engine.proofs.ScheduleLemmas.{schedule_of-append, schedule_of-more}
@@ -29,7 +31,7 @@ runs_cut (x ∷ xs) ys t n m h some = (h.0, other_cut x.0 xs ys t n m h.1, runs_
 
 -- a list, where it has an element
 split_at : (xs : List (ℕ × ℕ)) (i : ℕ) (x : ℕ × ℕ) → i < length xs → x ≡ get_or xs i x
-    → take i xs ++ x ∷ drop (i + 1) xs ≡ xs
+    → take i xs ++ x ∷ drop (suc i) xs ≡ xs
 split_at [] i x low is = absurd (omega (arith, low))
 split_at (y ∷ ys) zero x low is = ap (λ (z : ℕ × ℕ). z ∷ ys) is
 split_at (y ∷ ys) (suc i) x low is = ap (λ (zs : List (ℕ × ℕ)). y ∷ zs) (split_at ys i x (omega (arith, low)) is)
@@ -55,10 +57,13 @@ within xs ys t n zero steps runs is low =
     let same = ap (λ (k : ℕ). take k (schedule_of (xs ++ (t, n) ∷ ys))) is in
     (sym (append-nil (schedule_of xs)) ∙ sym (cut_within xs ys t n 0 low) ∙ same, runs_before xs ((t, n) ∷ ys) runs)
 within xs ys t n (suc m) steps runs is low =
-    let same = ap (λ (k : ℕ). take k (schedule_of (xs ++ (t, n) ∷ ys))) is in (
+    let all = xs ++ (t, n) ∷ ys in
+    let same = ap (λ (k : ℕ). take k (schedule_of all)) is in
+    let cut : AreFirst all steps (xs ++ (t, suc m) ∷ []) = (
       schedule_of-more xs t (suc m) ∙ sym (cut_within xs ys t n (suc m) low) ∙ same,
       runs_cut xs ys t n (suc m) runs (omega arith),
-    )
+    ) in
+    subst (λ (b : Bool). AreFirst all steps (if b then xs else xs ++ (t, suc m) ∷ [])) (sym (eqb-suc-zero m)) cut
 
 pub ends_within : (all runs new : List (ℕ × ℕ)) (i steps left : ℕ) (x : ℕ × ℕ) → AreRuns all → i < length all
     → x ≡ get_or all i x → runs ≡ take i all → length (schedule_of runs) + left ≡ steps → left ≤ x.1
@@ -66,7 +71,7 @@ pub ends_within : (all runs new : List (ℕ × ℕ)) (i steps left : ℕ) (x : �
 ends_within all runs new i steps left x are low is so_far so_many fits new_is =
     let whole = split_at all i x low is in
     let pre = take i all in
-    let post = drop (i + 1) all in
+    let post = drop (suc i) all in
     let many : length (schedule_of pre) + left ≡ steps =
     subst (λ (z : List (ℕ × ℕ)). length (schedule_of z) + left ≡ steps) so_far so_many in
     let new_as : new ≡ (if left == 0 then pre else pre ++ (x.0, left) ∷ []) =
@@ -74,15 +79,6 @@ ends_within all runs new i steps left x are low is so_far so_many fits new_is =
     subst (AreFirst all steps) (sym new_as)
     (subst (λ (z : List (ℕ × ℕ)). AreFirst z steps (if left == 0 then pre else pre ++ (x.0, left) ∷ [])) whole
     (within pre post x.0 x.1 left steps (subst AreRuns (sym whole) are) many fits))
-
--- all steps are among the first
-pub ends_after : (all runs : List (ℕ × ℕ)) (i steps left : ℕ) → AreRuns all → length all ≤ i
-    → runs ≡ take i all → length (schedule_of runs) + left ≡ steps → AreFirst all steps runs
-ends_after all runs i steps left are past so_far so_many =
-    let same : runs ≡ all = so_far ∙ take_all i all past in
-    let fits : length (schedule_of all) ≤ steps =
-    subst (λ (z : List (ℕ × ℕ)). length (schedule_of z) ≤ steps) same (omega (arith, so_many)) in
-    subst (AreFirst all steps) (sym same) (sym (take_all steps (schedule_of all) fits), are)
 
 -- a whole run is added
 pub run_more : (all runs : List (ℕ × ℕ)) (i steps left : ℕ) (x : ℕ × ℕ)

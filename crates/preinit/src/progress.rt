@@ -26,6 +26,8 @@ struct State<E: Write> {
     done: u64,
     /// The class that a worker began last.
     class: String,
+    /// Lines that are told once the build is over.
+    notes: String,
     /// What the build came to, once it is known and if it is wanted.
     totals: String,
     /// Whether a line stands on the terminal.
@@ -50,6 +52,7 @@ impl<'a, R: AllocGlobal + Clock, E: Write> ProgressLine<'a, R, E> {
             stage: Stage::Reading,
             done: 0,
             class: String::new(rt.alloc()),
+            notes: String::new(rt.alloc()),
             totals: String::new(rt.alloc()),
             told: false,
             over: false,
@@ -208,8 +211,13 @@ impl<R: Wait + Sync + Clock + rt::Files + AllocGlobal, E: Write + Send> Watch
         state.done = state.done.saturating_add(1);
     }
 
-    fn wants_totals(&self) -> bool {
+    fn wants_more(&self) -> bool {
         self.began.is_some()
+    }
+
+    fn note(&self, lines: &str) {
+        // Where memory is refused for them, they are not told.
+        let _ = self.state.lock(self.rt).notes.push_str(lines);
     }
 
     fn built(&self, totals: &str) {
@@ -220,11 +228,12 @@ impl<R: Wait + Sync + Clock + rt::Files + AllocGlobal, E: Write + Send> Watch
     fn summary(&self, alloc: Global) -> Option<String> {
         let taken = self.taken(alloc, self.began?)?;
         let state = self.state.lock(self.rt);
+        let notes = state.notes.as_str();
         let totals = state.totals.as_str();
         if totals.is_empty() {
-            return None;
+            return String::from_str(alloc, notes).ok();
         }
-        format!(in alloc; "{totals}; {taken}\n").ok()
+        format!(in alloc; "{notes}{totals}; {taken}\n").ok()
     }
 
     fn work(&self, alloc: Global) -> Option<String> {

@@ -1,6 +1,7 @@
 //! Where the threads of a run stand, read from another run over its own schedule.
 #![tactic(auto)]
 
+mod left_out;
 mod lines;
 mod places;
 mod replaying;

@@ -1,5 +1,6 @@
 //! Stacks as lines.
 
+use crate::left_out::left_out_words;
 use crate::places::{class_text, frame_text, needed_text};
 use crate::replaying::ThreadStacks;
 use init_engine::world::Thread;
@@ -105,17 +106,24 @@ fn stack_text(alloc: Global, program: &Program, frames: &Frames) -> Result<Strin
     Ok(text)
 }
 
-/// The innermost place of a stack, as a line.
-fn first_text(alloc: Global, program: &Program, frames: &Frames) -> Result<String, AllocError> {
+/// The innermost place of a stack, as a line, with what is left out there.
+fn first_text(
+    alloc: Global,
+    program: &Program,
+    shared: &Shared,
+    frames: &Frames,
+) -> Result<String, AllocError> {
     let thread = frames.thread;
     let places = places_of(alloc, frames)?;
-    match places.first() {
-        Some(place) => {
-            let place = place_text(alloc, program, *place)?;
-            format!(in alloc; "thread {thread} at {place}\n")
-        }
-        None => Ok(String::new(alloc)),
-    }
+    let Some(first) = places.first() else {
+        return Ok(String::new(alloc));
+    };
+    let place = place_text(alloc, program, *first)?;
+    let words = match *first {
+        StackPlace::Frame(frame) => left_out_words(alloc, program, shared, frame)?,
+        StackPlace::Initialization(_) => String::new(alloc),
+    };
+    format!(in alloc; "thread {thread} at {place}{words}\n")
 }
 
 /// The class or the monitor that the next step of a thread needs and another one may hold.
@@ -181,7 +189,7 @@ pub fn stack_lines(
 }
 
 /// The innermost place of each thread that has ended by a fault, or by an exception that nothing caught, before its last
-/// step: a line for each.
+/// step: a line for each, with what is left out there.
 ///
 /// # Errors
 /// `AllocError` where memory is refused.
@@ -191,13 +199,14 @@ pub fn end_lines(
     stacks: &ThreadStacks,
 ) -> Result<String, AllocError> {
     let mut text = String::new(alloc);
+    let shared = stacks.world.shared();
     let threads = stacks.world.threads();
     for place in 0..threads.len() {
         match &threads[place] {
             Thread::Going(_) | Thread::Ended(End::Returned) => {}
             Thread::Ended(_) => {
                 if let Some(Some(frames)) = stacks.before.get(place) {
-                    text.push_str(&first_text(alloc, program, frames)?)?;
+                    text.push_str(&first_text(alloc, program, shared, frames)?)?;
                 }
             }
         }
