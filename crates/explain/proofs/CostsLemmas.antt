@@ -31,7 +31,7 @@ costs_more I verdicts greatest n verdict costs more count before at one c low = 
 ]
 
 -- by the order that puts the greater first
-pub dearer : Cost → Cost → Bool
+abbrev pub dearer : Cost → Cost → Bool
 dearer one other = is_lt (by_cost one other)
 
 pub dearer_ranks : IsStrictWeakOrder dearer

@@ -3,7 +3,8 @@ use Rattle.std.specs.Prelude.{◌≡◌, ℕ, List, ◌++◌, length, Option, So
 use Rattle.std.specs.Prelude.{slice_index_or, codes, decimal}
 use Rattle.std.specs.List.{flat_map}
 use Rattle.std.specs.List.Sorted.{IsPermutation, IsSorted, IsStable}
-use Rattle.std.specs.Ordering.{nat_cmp, Ordering}
+use Rattle.std.specs.Ordering.{nat_cmp}
+use Rattle.std.specs.declared.cmp.Ordering.{Ordering}
 use Rattle.std.specs.Option.{option_to_list}
 use Rattle.loading.specs.Families.{Family}
 use Rattle.machine.specs.Linked.{program_of}

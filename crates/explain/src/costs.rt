@@ -108,7 +108,8 @@ fn sort(costs: &mut Vec<Cost>) -> Result<(), AllocError>
     ensures sorted { OnOk result (IsSorted by_cost costs.new.items) }
     ensures stable { OnOk result (IsStable by_cost costs.old.items costs.new.items) }
 {
-    costs.sort_by(|one, other| other.cost.cmp(&one.cost))
+    costs.sort_by(|one, other| other.cost.cmp(&one.cost))?;
+    Ok(())
 }
 
 /// The costs of the classes that have one.

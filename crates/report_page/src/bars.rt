@@ -59,7 +59,7 @@ impl Bars {
         count: usize,
         greatest: usize,
     ) -> Result<(), AllocError>
-        ensures { OnOk result (IsBarAdded self.old.bars.items (string_bytes label.entry) count self.new.bars.items) }
+        ensures { OnOk result (IsBarAdded self.old.bars.items (string_bytes label) count self.new.bars.items) }
     {
         let y = self.height;
         let length = length_of(count, greatest);

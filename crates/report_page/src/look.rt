@@ -48,7 +48,7 @@ th[aria-sort]::after{color:inherit}
 th[aria-sort=ascending]::after{content:"\2191"}
 th:nth-child(3),td:nth-child(3),th:nth-child(n+5),td:nth-child(n+5){text-align:right;white-space:nowrap}
 td:nth-child(2){white-space:nowrap;color:var(--soft)}
-td:first-child{width:45%}
+td:first-child{width:38%}
 td:first-child,td:nth-child(4){overflow-wrap:anywhere}
 tbody tr:hover{background:var(--band)}
 summary{cursor:pointer}
