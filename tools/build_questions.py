@@ -1,5 +1,5 @@
-"""Questions of classes that builds answer: `linking`, `options`, `verdicts` and `uses`, by `report` and `explain`. Given
-are classes; a fault of reading, of linking or of a list is an answer too.
+"""Questions of classes that builds answer: `linking`, `options`, `verdicts` and `uses`, by `report` and `explain`.
+Given are classes; a fault of reading, of linking or of a list is an answer too.
 
 - `linking`: `link`, whether they make a program; `numbers`, the names of all, by their numbers.
 - `options`: `force LIST`, the classes that a list for run time forces; `demand LIST`, those that one for build time

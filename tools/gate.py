@@ -3,12 +3,13 @@
   python3 tools/gate.py          at the top of the repository: the gate
   python3 tools/gate.py KEPT     in the copy of the crates that `./prove` made
 
-It is the same command but for how crates share processors and memory (`lanes.py`). Where `./prove` starts it, the
-program of the second compiler, which the kit keeps for the gate, is built beside the first one's, or is not built where
-nothing is kept. And with a kit whose command keeps nothing, and takes each crate's checksum anew for each path that
-leads down to it, 24,000 of them in the end, a checksum is taken once, and what is proved of a crate lies in the folder
-KEPT by its checksum, which is of the kit and of all files that the proof read, and is taken from there. What fails is
-not kept, and tests never are. A run that proves all removes what is kept of other files.
+It is the same command but for how crates share processors and memory (`lanes.py`), and for which functions are checked
+first where a mutant is tried (`mutants.py`). Where `./prove` starts it, the program of the second compiler, which the
+kit keeps for the gate, is built beside the first one's, or is not built where nothing is kept. And with a kit whose
+command keeps nothing, and takes each crate's checksum anew for each path that leads down to it, 24,000 of them in the
+end, a checksum is taken once, and what is proved of a crate lies in the folder KEPT by its checksum, which is of the
+kit and of all files that the proof read, and is taken from there. What fails is not kept, and tests never are. A run
+that proves all removes what is kept of other files.
 """
 import concurrent.futures
 import copy
@@ -19,6 +20,7 @@ import tempfile
 
 sys.dont_write_bytecode = True
 import lanes
+import mutants
 import program
 
 
@@ -109,6 +111,8 @@ def share(rt, is_gate):
         # What `./prove` proves is mostly one chain, in which a second job helps on two processors, too.
         if not is_gate or not lanes.run_one_each(rt):
             lanes.share(rt)
+        if mutants.is_known(rt):
+            mutants.try_parts_first(rt)
 
 
 def main(kept=None):

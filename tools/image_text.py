@@ -6,7 +6,7 @@ import struct
 import sys
 from dataclasses import dataclass
 
-sys.path.append(f"{os.path.dirname(os.path.dirname(os.path.realpath(__file__)))}/bench")
+sys.path.append(f"{os.path.dirname(os.path.dirname(os.path.realpath(__file__)))}/bench/shared")
 import class_model
 
 STATIC = class_model.STATIC

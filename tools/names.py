@@ -8,7 +8,7 @@ A name is a path (from the root, from the document's folder or within a crate), 
 code, definitions or scripts (comments don't count), a path of modules as `cli::build_here`, whose last part has to
 stand in a file of that crate, an option of the program or of a script, a command of the program, or a class of Java.
 What is no name is passed over: code, output, numbers. The crates of docs/ARCHITECTURE.md have to be those of
-crates.txt, and the picture there that of `bench/layers`. It ends in 1 where one is missing, and takes some seconds.
+crates.txt, and the picture there that of `bench/lints/layers`. It ends in 1 where one is missing.
 """
 import fnmatch
 import os
@@ -21,8 +21,8 @@ WORD = re.compile(r"[A-Za-z_]\w*")
 QUALIFIED = re.compile(r"[A-Za-z_]\w*(?:(?:::|\.)[A-Za-z_]\w*)*")
 PATH = re.compile(r"[\w.*@-]*(?:/[\w.*@-]+)*/?")
 OPTION = re.compile(r"--[a-z][a-z-]*")
-# What a comment begins with, by a file's ending; scripts without an ending are Python or of the shell. No other file has
-# names.
+# What a comment begins with, by a file's ending; scripts without an ending are Python or of the shell. No other file
+# has names.
 COMMENTS = {".rt": "//", ".antt": "--", ".edit": None, ".java": "//", ".c": "//", ".txt": None, ".py": "#", ".sh": "#",
             "": "#"}
 # The first words of commands of others, whose options and names are theirs.
@@ -161,14 +161,15 @@ def crates_apart():
     listed_there = re.findall(r"(?m)^([a-z_]+)[^:\n]*:", text_of("crates.txt"))
     rows = re.findall(r"(?m)^(?:\| )?(`[a-z_]+`(?:, `[a-z_]+`)*) \|", text.partition("Crate |")[2])
     named = re.findall(r"[a-z_]+", " ".join(rows))
-    drawn = subprocess.run([f"{ROOT}/bench/layers"], capture_output=True, text=True, check=True).stdout
-    return sorted(set(listed_there) ^ set(named)) + ["the picture of bench/layers"] * (drawn not in text)
+    drawn = subprocess.run([f"{ROOT}/bench/lints/layers"], capture_output=True, text=True, check=True).stdout
+    return sorted(set(listed_there) ^ set(named)) + ["the picture of bench/lints/layers"] * (drawn not in text)
 
 
 def main():
     tree = Tree()
+    usual = re.compile(r"([^/]+|(docs|bench|edits)/.*|crates/[^/]+/[^/]+)\.md")
     documents = [os.path.relpath(os.path.abspath(path), ROOT) for path in sys.argv[1:]] or [
-        path for path in tree.files if path.endswith(".md") and re.match(r"[^/]+$|(docs|bench|edits)/|crates/[^/]+/[^/]+$", path)]
+        path for path in tree.files if usual.fullmatch(path)]
     apart = crates_apart()
     lost = len(apart)
     for it in apart:

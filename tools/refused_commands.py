@@ -61,6 +61,9 @@ def commands(classes, small):
         (["run", "--entries", "Work,Work,Work", "small.img"], 0, [], True),
         (["run", "--turns", *TWO, "--journal", "two.journal", "small.img"], 6, ["two.journal"], False),
         (["replay", *TWO, "--journal", "two.journal", "small.img"], 6, [], False),
+        (["replay", *TWO, "--at", "60", "--journal", "two.journal", "small.img"], 5, [], False),
+        (["lazy", "--verbose", "--entries", "Main,Work,Main", *small], 6, [], False),
+        (["audit", "--verbose", "--entries", "Main", "lambda_Main.class"], 6, [], False),
     ]
 
 
@@ -127,7 +130,7 @@ def refuse_each(program, words, status, targets, what):
             return number, f"number {number} refused: {wrong or 'threads were left running'}"
         most = max(most, getattr(told[0], what))
         if not told[0].refused and number > most:
-            untold = WORKS - works if is_verbose else None
+            untold = WORKS - works if is_verbose and words[0] in ("build", "report") else None
             return number - 1, f"it never tells {untold}" if untold else None if number > 1 else "it asks for none"
 
 

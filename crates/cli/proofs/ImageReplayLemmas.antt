@@ -71,28 +71,28 @@ pub replayed_text : (bytes : List ℕ) (names : List (List ℕ)) (text : List �
     (result : Result ImageReplay CommandFault) → IsSomeTextOf bytes I → IsReadAsBuilt bytes I → IsProgram I.program
     → IfOk result (λ r. r.image ≡ I) → IfOk result (λ r. IsJournalOf text r.journal)
     → IfOk result (λ r. IsImageReplay I names r.journal r.seen) → IfOk result (IsReplayed bytes names text)
-replayed_text bytes names text I (Ok r) of built program same journal shown = record {
+replayed_text bytes names text I (Ok r) of built program same spelled shown = record {
   image = subst (IsSomeTextOf bytes) (sym same) of;
   built = subst (IsReadAsBuilt bytes) (sym same) built;
   program = subst (λ (J : ImageTables). IsProgram J.program) (sym same) program;
-  journal = journal;
+  journal = spelled;
   shown = subst (λ (J : ImageTables). IsImageReplay J names r.journal r.seen) (sym same) shown;
 }
-replayed_text bytes names text I (Err _) of built program same journal shown = tt
+replayed_text bytes names text I (Err _) of built program same spelled shown = tt
 
 -- the same of its first steps
 pub replayed_first : (steps : ℕ) (bytes : List ℕ) (names : List (List ℕ)) (text : List ℕ) (I : ImageTables)
     (result : Result ImageReplay CommandFault) → IsSomeTextOf bytes I → IsReadAsBuilt bytes I → IsProgram I.program
     → IfOk result (λ r. r.image ≡ I) → IfOk result (λ r. SpellsFirst steps text r.journal)
     → IfOk result (λ r. IsImageReplay I names r.journal r.seen) → IfOk result (IsReplayedTo steps bytes names text)
-replayed_first steps bytes names text I (Ok r) of built program same journal shown = record {
+replayed_first steps bytes names text I (Ok r) of built program same spelled shown = record {
   image = subst (IsSomeTextOf bytes) (sym same) of;
   built = subst (IsReadAsBuilt bytes) (sym same) built;
   program = subst (λ (J : ImageTables). IsProgram J.program) (sym same) program;
-  journal = journal;
+  journal = spelled;
   shown = subst (λ (J : ImageTables). IsImageReplay J names r.journal r.seen) (sym same) shown;
 }
-replayed_first steps bytes names text I (Err _) of built program same journal shown = tt
+replayed_first steps bytes names text I (Err _) of built program same spelled shown = tt
 
 -- replays of what files hold, where what they are made of is theirs
 module _ (holds : Contents) (words : Replay) (bytes text : List ℕ) (names : List (List ℕ))

@@ -70,16 +70,26 @@ fn audit_by_classes(
 {
     let places = audit(alloc, program, classes)?;
     let text = audit_text(alloc, program, places.as_slice())?;
-    let notes = if is_verbose {
-        notes_of(alloc, program, places.as_slice())?
-    } else {
-        String::new(alloc)
-    };
+    let notes = notes_if(alloc, program, places.as_slice(), is_verbose)?;
     Ok(Audited {
         text: text.into_bytes(),
         is_clean: places.is_empty(),
         notes,
     })
+}
+
+/// What is left out at these places, if more is to be told.
+fn notes_if(
+    alloc: Global,
+    program: &Program,
+    places: &[EndPlace],
+    is_verbose: bool,
+) -> Result<String, AllocError> {
+    if is_verbose {
+        notes_of(alloc, program, places)
+    } else {
+        Ok(String::new(alloc))
+    }
 }
 
 /// What is left out at these places, a line for each of which more is to be said.

@@ -82,7 +82,7 @@ fn unsupported_at(alloc: Global, built: &Built, class: u32) -> Result<Option<Evi
     let forced = Forced::none(alloc);
     let mut known = Knowledge::of_program(alloc, program, verdicts)?;
     let explanation = known.explain(alloc, program, verdicts, &forced, false, class)?;
-    match explanation.marks.unsupported {
+    match &explanation.marks.unsupported {
         Some(mark) => Ok(Some(mark.at)),
         None => Ok(None),
     }

@@ -126,15 +126,14 @@ pub(crate) fn start<R: Threads + Sync, F: Files>(
     ensures same { F.holds files.new ≡ F.holds files.old }
 {
     match get(alloc, words.image, files) {
-        Ok(bytes) => start_by_several(
-            rt,
-            alloc,
-            words.entries,
-            bytes,
-            words.stacks || words.verbose,
-        ),
+        Ok(bytes) => start_by_several(rt, alloc, words.entries, bytes, may_tell_stacks(words)),
         Err(refusal) => Err(refusal),
     }
+}
+
+/// Whether it may be told where the threads of a run stand.
+fn may_tell_stacks(words: &Run<'_>) -> bool {
+    words.stacks || words.verbose
 }
 
 /// The start from an image of these bytes, which several threads may read. The bytes are let go before the world is

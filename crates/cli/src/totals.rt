@@ -1,16 +1,14 @@
 //! What a build comes to, in words.
 
-ghost use Rattle.std.specs.Prelude.{◌≡◌, ◌++◌, ◌<◌, ◌^◌, IfOk, OnOk, length};
-ghost use Rattle.std.specs.List.{count_by, flat_map, sum};
+ghost use Rattle.std.specs.Prelude.{◌≡◌, ◌++◌, ◌<◌, ◌≤◌, ◌^◌, IfOk, OnOk, length};
+ghost use Rattle.std.specs.List.{count_by, sum};
 ghost use Rattle.std.specs.String.{string_bytes};
 ghost use Rattle.image_writer.specs.ImageTexts.{region_sizes as sizes_in};
 ghost use Rattle.inspection.specs.Texts.{objects_below};
-ghost use Rattle.cli.specs.Totals.{count_text, cure_line, cures_text, is_built, is_left_by, left_by, left_text};
-ghost use Rattle.cli.specs.Totals.{totals_text};
-ghost use Rattle.cli.specs.declared.cures.TheConstants.{CURES as cures};
+ghost use Rattle.cli.specs.Totals.{is_built, is_left_by, left_by, left_text};
 
 use crate::Watch;
-use crate::cures::{CURES, Cure};
+use crate::cures::{CURES, REASONS};
 use building::Built;
 use image_writer::region_sizes;
 use initializer_analysis::verdict::Verdict;
@@ -25,7 +23,8 @@ fn is_built(verdict: Verdict) -> bool
 
 /// How many classes are initialized.
 fn built_count(verdicts: &[Verdict]) -> usize
-    ensures { result ≡ count_by is_built verdicts.now }
+    ensures count { result ≡ count_by is_built verdicts.now }
+    ensures within { result ≤ length verdicts.now }
 {
     let mut count = 0;
     for place in 0..verdicts.len() {
@@ -60,9 +59,10 @@ fn left_by(verdicts: &[Verdict], word: &str) -> usize
 }
 
 /// Adds how many classes are left by a reason, if any are.
-fn add_count(text: &mut String, word: &str, count: usize) -> Result<(), AllocError>
-    ensures { OnOk result (string_bytes text.new ≡ string_bytes text.old ++ count_text word.now count) }
+fn add_left(text: &mut String, verdicts: &[Verdict], word: &str) -> Result<(), AllocError>
+    ensures { OnOk result (string_bytes text.new ≡ string_bytes text.old ++ left_text verdicts.now word.now) }
 {
+    let count = left_by(verdicts, word);
     if count == 0 {
         return Ok(());
     }
@@ -70,13 +70,10 @@ fn add_count(text: &mut String, word: &str, count: usize) -> Result<(), AllocErr
 }
 
 /// How many classes are left by each reason.
-fn left_text(alloc: Global, verdicts: &[Verdict]) -> Result<String, AllocError>
-    ensures { IfOk result (λ text. string_bytes text ≡ flat_map (left_text verdicts.now) cures) }
-{
+fn left_text(alloc: Global, verdicts: &[Verdict]) -> Result<String, AllocError> {
     let mut text = String::new(alloc);
-    for place in 0..CURES.len() {
-        let cure = CURES[place];
-        add_count(&mut text, cure.word, left_by(verdicts, cure.word))?;
+    for place in 0..REASONS.len() {
+        add_left(&mut text, verdicts, REASONS[place])?;
     }
     Ok(text)
 }
@@ -114,9 +111,7 @@ fn bytes_of(alloc: Global, image: &Image) -> Result<u128, AllocError>
 
 /// What a build comes to: its classes, and how many are initialized, with how many objects and bytes; and how many are
 /// left to run time by each reason.
-fn totals_text(alloc: Global, image: &Image, verdicts: &[Verdict]) -> Result<String, AllocError>
-    ensures { IfOk result (λ text. string_bytes text ≡ totals_text image.now verdicts.now) }
-{
+fn totals_text(alloc: Global, image: &Image, verdicts: &[Verdict]) -> Result<String, AllocError> {
     let classes = verdicts.len();
     let built = built_count(verdicts);
     let left = classes - built;
@@ -130,24 +125,23 @@ fn totals_text(alloc: Global, image: &Image, verdicts: &[Verdict]) -> Result<Str
 }
 
 /// Adds what can be done about a reason, if classes are left by it.
-fn add_cure(text: &mut String, cure: Cure, count: usize) -> Result<(), AllocError>
-    ensures { OnOk result (string_bytes text.new ≡ string_bytes text.old ++ cure_line cure count) }
-{
-    if count == 0 {
+fn add_cure(
+    text: &mut String,
+    verdicts: &[Verdict],
+    word: &str,
+    cure: &str,
+) -> Result<(), AllocError> {
+    if left_by(verdicts, word) == 0 {
         return Ok(());
     }
-    let Cure { word, text: words } = cure;
-    writeln!(text, "{word}: {words}")
+    writeln!(text, "{word}: {cure}")
 }
 
 /// What can be done about the reasons that stand, a line for each.
-fn cures_text(alloc: Global, verdicts: &[Verdict]) -> Result<String, AllocError>
-    ensures { IfOk result (λ text. string_bytes text ≡ cures_text verdicts.now) }
-{
+fn cures_text(alloc: Global, verdicts: &[Verdict]) -> Result<String, AllocError> {
     let mut text = String::new(alloc);
-    for place in 0..CURES.len() {
-        let cure = CURES[place];
-        add_cure(&mut text, cure, left_by(verdicts, cure.word))?;
+    for place in 0..REASONS.len() {
+        add_cure(&mut text, verdicts, REASONS[place], CURES[place])?;
     }
     Ok(text)
 }

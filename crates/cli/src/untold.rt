@@ -280,6 +280,17 @@ enum Known {
     Interface,
 }
 
+impl Known {
+    /// What stands after the name of a class of which no file is given.
+    fn in_words(self) -> Option<&'static str> {
+        match self {
+            Known::Given => None,
+            Known::Superclass => Some(""),
+            Known::Interface => Some(" (an interface)"),
+        }
+    }
+}
+
 /// Which parents of classes are neither among these nor built in, each once, in the order of their names, and which of
 /// them are interfaces.
 fn parents_text(alloc: Global, classes: &[ClassFile]) -> Result<String, AllocError> {
@@ -288,16 +299,14 @@ fn parents_text(alloc: Global, classes: &[ClassFile]) -> Result<String, AllocErr
         add_parents(&mut known, class)?;
     }
     let mut text = String::from_str(alloc, "no class file is given of")?;
-    let mut before = " ";
+    let mut is_first = true;
     for (name, what) in &known {
-        let after = match what {
-            Known::Given => continue,
-            Known::Superclass => "",
-            Known::Interface => " (an interface)",
-        };
-        let name = printed(alloc, name)?;
-        write!(text, "{before}{name}{after}")?;
-        before = ", ";
+        if let Some(after) = what.in_words() {
+            let before = if is_first { " " } else { ", " };
+            let name = printed(alloc, name)?;
+            write!(text, "{before}{name}{after}")?;
+            is_first = false;
+        }
     }
     Ok(text)
 }

@@ -101,13 +101,6 @@ pub none_of_zeros : (most : ℕ) (sizes : List ℕ) → ((d : ℕ) → size_at s
 none_of_zeros zero sizes zeros = refl
 none_of_zeros (suc most) sizes zeros = inl (zeros, refl)
 
-pub completes_first : (most : ℕ) (sizes left places : List ℕ) → left ≡ sizes → places ≡ []
-    → Completes most sizes 0 left places
-completes_first most sizes left places same none rest are =
-    let all : most - 0 ≡ most = omega arith in
-    subst (λ (l : List ℕ). AreLargest most sizes (l ++ rest)) (sym none)
-    (subst (λ (l : List ℕ). AreLargest most l rest) same (subst (λ (n : ℕ). AreLargest n left rest) all are))
-
 -- the greatest, and then the others
 largest_more : (count : ℕ) (left : List ℕ) (c : ℕ) (rest : List ℕ) → IsGreatest left c
     → AreLargest count (set left c 0) rest → AreLargest (suc count) left (c ∷ rest)

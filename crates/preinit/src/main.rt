@@ -99,8 +99,8 @@ where
     command_holding(rt, rt.alloc(), words, &mut disk, out, errors, &Unwatched)
 }
 
-/// Does a command. A build that is refused memory tells what it was at, if words are asked for, and one that is not what
-/// it came to.
+/// Does a command. If words are asked for, a build that is refused memory tells what it was at, and one that is not
+/// tells what it came to.
 fn run_without_terminal<R, W, E>(rt: &R, words: &[&str], out: W, errors: &mut E) -> CommandEnd<W>
 where
     R: rt::Files + rt::Clock + AllocGlobal + Threads + Wait + Sync,

@@ -2,7 +2,9 @@
 
 use crate::answer::Answer;
 use classfile::ClassName;
-use cli::{Audit, Build, Building, Explain, Inspect, Lazy, Renew, Replay, Request, Run, entries_of, line};
+use cli::{
+    Audit, Build, Building, Explain, Inspect, Lazy, Renew, Replay, Request, Run, entries_of, line,
+};
 use std::alloc::{AllocError, Global};
 
 /// Asked is `line WORDS`, what the words of a command ask for, or `entries LIST`, the names of a list.

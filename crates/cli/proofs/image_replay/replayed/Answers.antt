@@ -10,8 +10,8 @@ returns-in-Some-clause-replayed g c =
     (c.as_slice-names.ensures.value ∙ c.in_ok-entries.ensures) c.in-Some.steps c.replay_first.result c.in-Some.is
     c.replay_first.ensures
 
-pub returns-in-None-clause-replayed : goal.returns-in-None-clause-replayed
-returns-in-None-clause-replayed g c =
+pub returns-clause-replayed : goal.returns-clause-replayed
+returns-clause-replayed g c =
     let holds = g.F.Files.holds c.args.files.now in
     replay_of holds c.args.words.now c.in_ok-image.image.items c.as_slice-text.result.now c.as_slice-names.result.now
     c.in_ok-image.ensures.bytes (rw (c.as_slice-text.ensures.value, ← c.get.ensures.same) c.in_ok-journal.ensures.bytes)
