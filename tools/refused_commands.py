@@ -23,7 +23,10 @@ OLD = b"old"
 # runs so long that `evaluator` goes on by courses.
 CLASSES = "questions/java/init_enum_basic_*.class"
 LEFT_OUT, SEVEN = "questions/java/lambda_Main.class", "crates/preinit/data/M.class"
-TOTALS = re.compile(rb"(?:[A-Z]\w+: [^\n]*\n)*classes \d[^\n]*\n\Z")
+# What can be done about the reasons that stand, and what a build came to: left out where memory is refused for it.
+REASONS = (rb"Forced|Prints|Throws|Monitors|ForeignWrite|ForeignRead|Unsupported|Missing|Cycle|DependsOn|Raised|"
+           rb"ForeignObject|Budget|Faulted")
+TOTALS = re.compile(rb"(?:(?:" + REASONS + rb"): [^\n]*\n)*(?:classes \d[^\n]*\n)?\Z")
 LONG = "questions/java/algo_crc_adler_Crc.class"
 # Small classes that have all sorts of objects, and threads that print, raise and hold a monitor: on these
 # `product_cases` makes its own calls.
