@@ -1,6 +1,6 @@
 //! A class's initializer once more, for what it costs.
 
-ghost use Rattle.std.specs.Prelude.{◌≡◌, ◌≢◌, ℕ, None, true, false, IfOk, OnOk};
+ghost use Rattle.std.specs.Prelude.{◌≡◌, ◌≢◌, ◌+◌, ◌<◌, ℕ, None, true, false, IfOk, OnOk};
 ghost use Rattle.std.specs.Bool.{MatchBool};
 ghost use Rattle.semantics.specs.Quiet.{OverBudget, Refused};
 ghost use Rattle.machine.specs.Linked.{program_of};
@@ -78,6 +78,19 @@ fn other_regions(alloc: Global, image: &Image, class: u32) -> Result<Regions, Al
     Ok(regions)
 }
 
+/// Copies of the regions of an image.
+pub(crate) fn all_regions(alloc: Global, image: &Image) -> Result<Regions, AllocError>
+    ensures { IfOk result (λ regions. environment_of regions ≡ environment_of image.now.regions) }
+{
+    // What holds of every image: given classes alone have regions.
+    let _first = image.region(0);
+    let mut regions = Regions::none(alloc);
+    for class in 0..image.program().given_count() {
+        add_region(alloc, image, class, &mut regions)?;
+    }
+    Ok(regions)
+}
+
 /// Whether what stops an initializer is its cost.
 fn is_cost(halt: Halt) -> bool
     ensures yes { result ≡ true → stop_of halt ≡ Refused OverBudget }
@@ -120,6 +133,16 @@ fn costs_more(
     Ok(over)
 }
 
+/// How far above what is too little the next try is: half the way to what is enough, but no more than twice what is too
+/// little, since most initializers cost little.
+fn stride(low: u64, high: u64) -> u64
+    requires { low < high }
+    ensures { low + result < high }
+{
+    let half = (high - low) / 2;
+    if low < half { low } else { half }
+}
+
 /// The least budget that an initializer does not cost more than, or the greatest.
 fn least_budget(
     alloc: Global,
@@ -134,7 +157,7 @@ fn least_budget(
     let mut low = 0;
     let mut high = greatest;
     while low < high {
-        let middle = low + (high - low) / 2;
+        let middle = low + stride(low, high);
         if costs_more(alloc, program, regions, class, middle)? {
             low = middle + 1;
         } else {
@@ -144,8 +167,32 @@ fn least_budget(
     Ok(low)
 }
 
+/// The least budget that the initializer of a class does not cost more than, or the greatest, where all other regions
+/// of these are at hand.
+pub(crate) fn least_without(
+    alloc: Global,
+    program: &Program,
+    regions: &mut Regions,
+    class: u32,
+    greatest: u64,
+) -> Result<u64, AllocError>
+    ensures same { environment_of regions.new ≡ environment_of regions.old }
+    ensures least { IfOk result
+        (IsLeast (program_of program.now) (without (environment_of regions.old) class) class greatest) }
+{
+    let own = regions.take(class);
+    let found = least_budget(alloc, program, regions, class, greatest);
+    match own {
+        Some(own) => {
+            regions.set(class, own);
+            found
+        }
+        None => found,
+    }
+}
+
 /// Runs the initializer of a class within the least budget in which it does not cost too much, with copies of the
-/// image's regions of the other classes at hand. It takes as many runs as the greatest budget has bits.
+/// image's regions of the other classes at hand.
 ///
 /// # Errors
 /// Where memory runs out.
