@@ -160,13 +160,8 @@ pub record HasBuilt (old new : Contents) (words : Build) : Type 0 where
   pub page : HasPage old between words.page answer words.building
   pub written : AreWritten between new words.image.now words.report bytes (report_text answer.image answer.verdicts)
 
--- This is the report on a build of the class files, as the words say.
-pub record IsReport (holds : Contents) (words : Building) (report : List ℕ) : Type 0 where
-  pub answer : Built
-  pub asked : IsAskedBuild holds words answer
-  pub is : report ≡ report_text answer.image answer.verdicts
-
--- The same with the page of the build in its file, where the words name one.
+-- This is the report on a build of the class files, as the words say, and the file of the page, where they name one,
+-- holds the page of the same build.
 pub record HasReport (old new : Contents) (words : Report) (report : List ℕ) : Type 0 where
   pub answer : Built
   pub asked : IsAskedBuild old words.building answer
