@@ -10,6 +10,7 @@ mod costs;
 mod cycles;
 mod evidences;
 mod explaining;
+mod guesses;
 mod lines;
 mod marks;
 mod nearest;

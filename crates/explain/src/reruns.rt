@@ -1,6 +1,6 @@
 //! A class's initializer once more, for what it costs.
 
-ghost use Rattle.std.specs.Prelude.{◌≡◌, ◌≢◌, ◌+◌, ◌<◌, ℕ, None, true, false, IfOk, OnOk};
+ghost use Rattle.std.specs.Prelude.{◌≡◌, ◌≢◌, ◌<◌, ◌≤◌, ℕ, None, true, false, IfOk, OnOk};
 ghost use Rattle.std.specs.Bool.{MatchBool};
 ghost use Rattle.semantics.specs.Quiet.{OverBudget, Refused};
 ghost use Rattle.machine.specs.Linked.{program_of};
@@ -9,6 +9,7 @@ ghost use Rattle.region_shape.specs.Regions.{environment_of};
 ghost use Rattle.explain.specs.Reruns.{CostsMore, IsLeast, IsRerunIn, without};
 ghost use Rattle.explain.specs.steps.Over.{IsOver};
 
+use crate::guesses::guess;
 use evaluator::outcome::{Evaluation, Halt, Refusal};
 use evaluator::settling::evaluate;
 use object_graph::Image;
@@ -133,36 +134,60 @@ fn costs_more(
     Ok(over)
 }
 
-/// How far above what is too little the next try is: half the way to what is enough, but no more than twice what is too
-/// little, since most initializers cost little.
-fn stride(low: u64, high: u64) -> u64
+/// The nearest to a wish that is still open: too little are those below `low`, and `high` is enough.
+fn nearest(wish: u64, low: u64, high: u64) -> u64
     requires { low < high }
-    ensures { low + result < high }
+    ensures low { low ≤ result }
+    ensures high { result < high }
 {
-    let half = (high - low) / 2;
-    if low < half { low } else { half }
+    if wish < low {
+        low
+    } else if wish < high {
+        wish
+    } else {
+        high - 1
+    }
 }
 
-/// The least budget that an initializer does not cost more than, or the greatest.
+/// Where to try next once all below `low` are known to be too little: not far above, but no further than half the way.
+fn upwards(low: u64, high: u64, stride: u64) -> u64 {
+    let half = high.saturating_sub(low) / 2;
+    low.saturating_add(stride.min(half))
+}
+
+/// Where to try next once `high` is known to be enough: not far below, but no further than half the way.
+fn downwards(low: u64, high: u64, stride: u64) -> u64 {
+    let half = high.saturating_sub(low) / 2;
+    high.saturating_sub(1).saturating_sub(stride.min(half))
+}
+
+/// The least budget that an initializer does not cost more than, or the greatest. Tries begin just below a guess, and
+/// their strides double, so that there are two where the guess is right, and few where it is near.
 fn least_budget(
     alloc: Global,
     program: &Program,
     regions: &Regions,
     class: u32,
     greatest: u64,
+    guess: u64,
 ) -> Result<u64, AllocError>
     ensures { IfOk result
         (IsLeast (program_of program.now) (environment_of regions.now) class greatest) }
 {
     let mut low = 0;
     let mut high = greatest;
+    let mut wish = guess.saturating_sub(1);
+    let mut stride = 0u64;
     while low < high {
-        let middle = low + stride(low, high);
+        let middle = nearest(wish, low, high);
         if costs_more(alloc, program, regions, class, middle)? {
             low = middle + 1;
+            wish = upwards(low, high, stride);
         } else {
             high = middle;
+            wish = downwards(low, high, stride);
         }
+        stride = stride.saturating_mul(2).saturating_add(1);
     }
     Ok(low)
 }
@@ -181,7 +206,8 @@ pub(crate) fn least_without(
         (IsLeast (program_of program.now) (without (environment_of regions.old) class) class greatest) }
 {
     let own = regions.take(class);
-    let found = least_budget(alloc, program, regions, class, greatest);
+    let guess = guess(program, class, own.as_ref());
+    let found = least_budget(alloc, program, regions, class, greatest, guess);
     match own {
         Some(own) => {
             regions.set(class, own);
@@ -206,7 +232,8 @@ pub fn run_again(
 {
     let program = image.program();
     let regions = other_regions(alloc, image, class)?;
-    let budget = least_budget(alloc, program, &regions, class, greatest)?;
+    let guess = guess(program, class, image.region(class));
+    let budget = least_budget(alloc, program, &regions, class, greatest, guess)?;
     let evaluation = evaluate(alloc, program, &regions, class, budget)?;
     Ok(Rerun { budget, evaluation })
 }
