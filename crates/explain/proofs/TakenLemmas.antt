@@ -46,3 +46,5 @@ put_back (x ∷ regions) (suc c) r is = ap (λ (l : List (Option Region)). x ∷
 -- where it is not there, nothing changes
 pub not_there : (regions : List (Option Region)) (c : ℕ) → region_in regions c ≡ None → set regions c None ≡ regions
 not_there regions c is = ap (λ (o : Option Region). set regions c o) (sym is) ∙ set-get_or regions c None
+
+pub ruleset of_taken = (has_place, put_back, not_there)

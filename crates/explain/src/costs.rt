@@ -9,6 +9,7 @@ ghost use Rattle.region_shape.specs.Regions.{environment_of};
 ghost use Rattle.explain.specs.Costs.{by_cost, AreCosts, AreDearestFirst, IsCost, IsCostOf};
 ghost use Rattle.explain.specs.Reruns.{IsLeast, without};
 
+use crate::counting::{count_at, counts};
 use crate::reruns::{all_regions, least_without};
 use crate::run_lines::made_count;
 use crate::sizes::region_size;
@@ -56,7 +57,7 @@ fn cost_at(
     })
 }
 
-/// What the initializer of a class costs and leaves, if it is accepted.
+/// What the initializer of a class costs and leaves, if it is accepted; the cost is searched from a guess.
 fn cost_of(
     alloc: Global,
     image: &Image,
@@ -64,6 +65,7 @@ fn cost_of(
     budget: u64,
     class: u32,
     verdict: Verdict,
+    guess: u64,
 ) -> Result<Option<Cost>, AllocError>
     requires { environment_of regions.old ≡ environment_of image.now.regions }
     ensures same { environment_of regions.new ≡ environment_of image.now.regions }
@@ -71,7 +73,7 @@ fn cost_of(
 {
     match verdict {
         Verdict::Wave(_) => {
-            let cost = least_without(alloc, image.program(), regions, class, budget)?;
+            let cost = least_without(alloc, image.program(), regions, class, budget, guess)?;
             let found = cost_at(alloc, image, class, budget, cost)?;
             Ok(Some(found))
         }
@@ -83,6 +85,7 @@ fn cost_of(
 ///
 /// # Errors
 /// Where memory runs out.
+#[tactic(auto, using(crate::proofs::CostsLemmas::costs_more))]
 pub fn costs_of(
     alloc: Global,
     image: &Image,
@@ -92,11 +95,13 @@ pub fn costs_of(
     requires { length verdicts.now ≡ length image.now.program.classes }
     ensures { IfOk result (λ costs. AreCosts image.now verdicts.now budget costs.items) }
 {
+    let guesses = counts(alloc, image)?;
     let mut regions = all_regions(alloc, image)?;
     let mut costs = Vec::with_capacity(alloc, verdicts.len())?;
     for class in 0..image.program().given_count() {
         let verdict = verdicts[class as usize];
-        let cost = cost_of(alloc, image, &mut regions, budget, class, verdict)?;
+        let guess = count_at(guesses.as_slice(), class);
+        let cost = cost_of(alloc, image, &mut regions, budget, class, verdict, guess)?;
         costs.push(cost)?;
     }
     Ok(costs)

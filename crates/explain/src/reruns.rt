@@ -9,7 +9,6 @@ ghost use Rattle.region_shape.specs.Regions.{environment_of};
 ghost use Rattle.explain.specs.Reruns.{CostsMore, IsLeast, IsRerunIn, without};
 ghost use Rattle.explain.specs.steps.Over.{IsOver};
 
-use crate::guesses::guess;
 use evaluator::outcome::{Evaluation, Halt, Refusal};
 use evaluator::settling::evaluate;
 use object_graph::Image;
@@ -193,20 +192,21 @@ fn least_budget(
 }
 
 /// The least budget that the initializer of a class does not cost more than, or the greatest, where all other regions
-/// of these are at hand.
+/// of these are at hand. It is searched from a guess.
+#[tactic(auto, using(crate::proofs::TakenLemmas::of_taken))]
 pub(crate) fn least_without(
     alloc: Global,
     program: &Program,
     regions: &mut Regions,
     class: u32,
     greatest: u64,
+    guess: u64,
 ) -> Result<u64, AllocError>
     ensures same { environment_of regions.new ≡ environment_of regions.old }
     ensures least { IfOk result
         (IsLeast (program_of program.now) (without (environment_of regions.old) class) class greatest) }
 {
     let own = regions.take(class);
-    let guess = guess(program, class, own.as_ref());
     let found = least_budget(alloc, program, regions, class, greatest, guess);
     match own {
         Some(own) => {
@@ -232,8 +232,7 @@ pub fn run_again(
 {
     let program = image.program();
     let regions = other_regions(alloc, image, class)?;
-    let guess = guess(program, class, image.region(class));
-    let budget = least_budget(alloc, program, &regions, class, greatest, guess)?;
+    let budget = least_budget(alloc, program, &regions, class, greatest, 0)?;
     let evaluation = evaluate(alloc, program, &regions, class, budget)?;
     Ok(Rerun { budget, evaluation })
 }

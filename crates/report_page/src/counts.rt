@@ -117,6 +117,7 @@ fn greatest_reason(verdicts: &[Verdict]) -> usize {
 }
 
 /// Adds the bar of a wave, if there are classes of it.
+#[tactic(auto, using(crate::proofs::CountsLemmas::added_all))]
 fn add_wave(
     alloc: Global,
     verdicts: &[Verdict],
@@ -137,6 +138,7 @@ fn add_wave(
 }
 
 /// Adds the bar of all waves from one on, if there are classes of these.
+#[tactic(auto, using(crate::proofs::CountsLemmas::added_all))]
 fn add_later(
     alloc: Global,
     verdicts: &[Verdict],
@@ -157,6 +159,7 @@ fn add_later(
 }
 
 /// Adds the bar of a reason, if there are classes that stay for it.
+#[tactic(auto, using(crate::proofs::CountsLemmas::added_all))]
 fn add_reason(
     alloc: Global,
     verdicts: &[Verdict],
