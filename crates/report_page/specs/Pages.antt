@@ -118,14 +118,10 @@ pub record ArePictures (family : Family) (text : List ℕ) : Type 0 where
   pub built : Picture
   pub is : text ≡ pictures_text family left built
 
--- A page of an image and the last verdicts on its classes, within this budget. There is a row for each class, in the
--- order of their numbers. Of its style sheet and its script nothing is said.
-pub record IsPage (I : ImageTables) (verdicts : List Verdict) (at_run_time : List Bool) (budget : ℕ) (text : List ℕ)
-    : Type 0 where
-  pub costs : List (Option Cost)
-  pub are : AreCosts I verdicts budget costs
-  pub dearest : List Cost
-  pub sorted : AreDearestFirst costs dearest
+-- A page of an image and the last verdicts on its classes, by what the accepted ones cost. There is a row for each
+-- class, in the order of their numbers. Of its style sheet and its script nothing is said.
+pub record IsPageOf (I : ImageTables) (verdicts : List Verdict) (at_run_time : List Bool) (costs : List (Option Cost))
+    (dearest : List Cost) (text : List ℕ) : Type 0 where
   pub totals : Totals
   pub has_totals : AreTotals verdicts dearest totals
   pub numbers : List ℕ
@@ -137,3 +133,12 @@ pub record IsPage (I : ImageTables) (verdicts : List Verdict) (at_run_time : Lis
   pub style : List ℕ
   pub script : List ℕ
   pub is : text ≡ page_text style numbers pictures rows script
+
+-- the same within a budget
+pub record IsPage (I : ImageTables) (verdicts : List Verdict) (at_run_time : List Bool) (budget : ℕ) (text : List ℕ)
+    : Type 0 where
+  pub costs : List (Option Cost)
+  pub are : AreCosts I verdicts budget costs
+  pub dearest : List Cost
+  pub sorted : AreDearestFirst costs dearest
+  pub is : IsPageOf I verdicts at_run_time costs dearest text
