@@ -18,7 +18,8 @@ use Rattle.report_page.specs.declared.totals.Totals.{Totals}
 
 -- ---- totals
 
-abbrev pub total_text : List ℕ → ℕ → List ℕ
+-- closed, since the text of all of them is long
+pub total_text : List ℕ → ℕ → List ℕ
 total_text name number =
     codes "<div><dt>" ++ (name ++ (codes "</dt><dd>" ++ (decimal number ++ codes "</dd></div>")))
 
@@ -27,11 +28,13 @@ counts_text totals = total_text (codes "classes") totals.classes
     ++ (total_text (codes "at build time") totals.built
     ++ total_text (codes "at run time") (totals.classes - totals.built))
 
+abbrev pub objects_text : Totals → List ℕ
+objects_text totals =
+    total_text (codes "objects made") totals.made ++ total_text (codes "objects kept") totals.kept
+
 abbrev pub sums_text : Totals → List ℕ
 sums_text totals = total_text (codes "cost") totals.cost
-    ++ (total_text (codes "objects made") totals.made
-    ++ (total_text (codes "objects kept") totals.kept
-    ++ total_text (codes "bytes in the image") totals.bytes))
+    ++ (objects_text totals ++ total_text (codes "bytes in the image") totals.bytes)
 
 abbrev pub totals_text : Totals → List ℕ
 totals_text totals = codes "<dl>" ++ (counts_text totals ++ (sums_text totals ++ codes "</dl>\n"))

@@ -2,7 +2,8 @@
 
 ghost use Rattle.std.specs.Prelude.{◌≡◌, IfOk, string_bytes};
 ghost use Rattle.std.specs.List.{sum_by};
-ghost use Rattle.report_page.specs.Pages.{counts_text, part_of, sums_text, total_text, totals_text, AreTotals};
+ghost use Rattle.report_page.specs.Pages.{counts_text, objects_text, part_of, sums_text, total_text, totals_text};
+ghost use Rattle.report_page.specs.Pages.{AreTotals};
 
 use explain::Cost;
 use initializer_analysis::verdict::Verdict;
@@ -67,6 +68,7 @@ pub(crate) fn totals_of(verdicts: &[Verdict], dearest: &[Cost]) -> Totals
 }
 
 /// One of the totals.
+#[tactic(auto, unfolding(crate::specs::Pages::total_text))]
 fn total_text(alloc: Global, name: &str, number: u128) -> Result<String, AllocError>
     ensures { IfOk result (λ text. string_bytes text ≡ total_text name.now number) }
 {
@@ -84,15 +86,23 @@ fn counts_text(alloc: Global, totals: Totals) -> Result<String, AllocError>
     format!(in alloc; "{classes}{built}{left}")
 }
 
+/// How many objects those made that start initialized, and how many are kept.
+fn objects_text(alloc: Global, totals: Totals) -> Result<String, AllocError>
+    ensures { IfOk result (λ text. string_bytes text ≡ objects_text totals) }
+{
+    let made = total_text(alloc, "objects made", totals.made)?;
+    let kept = total_text(alloc, "objects kept", totals.kept)?;
+    format!(in alloc; "{made}{kept}")
+}
+
 /// What those cost and leave that start initialized.
 fn sums_text(alloc: Global, totals: Totals) -> Result<String, AllocError>
     ensures { IfOk result (λ text. string_bytes text ≡ sums_text totals) }
 {
     let cost = total_text(alloc, "cost", totals.cost)?;
-    let made = total_text(alloc, "objects made", totals.made)?;
-    let kept = total_text(alloc, "objects kept", totals.kept)?;
+    let objects = objects_text(alloc, totals)?;
     let bytes = total_text(alloc, "bytes in the image", totals.bytes)?;
-    format!(in alloc; "{cost}{made}{kept}{bytes}")
+    format!(in alloc; "{cost}{objects}{bytes}")
 }
 
 /// The totals.
