@@ -19,24 +19,24 @@ use Rattle.report_page.specs.declared.totals.Totals.{Totals}
 -- ---- totals
 
 -- closed, since the text of all of them is long
-pub total_text : List ℕ → ℕ → List ℕ
+unfoldable pub total_text : List ℕ → ℕ → List ℕ
 total_text name number =
     codes "<div><dt>" ++ (name ++ (codes "</dt><dd>" ++ (decimal number ++ codes "</dd></div>")))
 
-abbrev pub counts_text : Totals → List ℕ
+unfoldable pub counts_text : Totals → List ℕ
 counts_text totals = total_text (codes "classes") totals.classes
     ++ (total_text (codes "at build time") totals.built
     ++ total_text (codes "at run time") (totals.classes - totals.built))
 
-abbrev pub objects_text : Totals → List ℕ
+unfoldable pub objects_text : Totals → List ℕ
 objects_text totals =
     total_text (codes "objects made") totals.made ++ total_text (codes "objects kept") totals.kept
 
-abbrev pub sums_text : Totals → List ℕ
+unfoldable pub sums_text : Totals → List ℕ
 sums_text totals = total_text (codes "cost") totals.cost
     ++ (objects_text totals ++ total_text (codes "bytes in the image") totals.bytes)
 
-abbrev pub totals_text : Totals → List ℕ
+unfoldable pub totals_text : Totals → List ℕ
 totals_text totals = codes "<dl>" ++ (counts_text totals ++ (sums_text totals ++ codes "</dl>\n"))
 
 -- what an accepted class has of a total
