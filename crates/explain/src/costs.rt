@@ -58,7 +58,6 @@ fn cost_at(
 }
 
 /// What the initializer of a class costs and leaves, if it is accepted; the cost is searched from a guess.
-#[tactic(auto, using(crate::proofs::CostsLemmas::least_same))]
 fn cost_of(
     alloc: Global,
     image: &Image,
