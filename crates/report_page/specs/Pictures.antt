@@ -84,8 +84,12 @@ unfoldable pub view_text : Picture → List ℕ
 view_text picture = codes "viewBox=\"0 0 " ++ (decimal picture.width
     ++ (codes " " ++ (decimal picture.height ++ codes "\"")))
 
+-- the curves, and on top of them the boxes
+unfoldable pub content_text : Family → Picture → List ℕ
+content_text family picture =
+    flat_map link_text picture.links.items ++ flat_map (λ node. node_text family node) picture.nodes.items
+
 unfoldable pub picture_text : Family → Picture → List ℕ
 picture_text family picture = codes "<div class=\"wide\"><svg class=\"net\" " ++ (size_text picture
     ++ (codes " " ++ (view_text picture
-    ++ (codes ">\n" ++ (flat_map link_text picture.links.items
-    ++ (flat_map (λ node. node_text family node) picture.nodes.items ++ codes "</svg></div>\n"))))))
+    ++ (codes ">\n" ++ (content_text family picture ++ codes "</svg></div>\n")))))

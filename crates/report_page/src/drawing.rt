@@ -2,7 +2,7 @@
 
 ghost use Rattle.std.specs.Prelude.{◌≡◌, IfOk, string_bytes};
 ghost use Rattle.std.specs.List.{flat_map};
-ghost use Rattle.report_page.specs.Pictures.{box_text, inner_text, link_text, node_text, number_text};
+ghost use Rattle.report_page.specs.Pictures.{box_text, content_text, inner_text, link_text, node_text, number_text};
 ghost use Rattle.report_page.specs.Pictures.{picture_text, point_text, size_text, view_text};
 
 use crate::escaping::escaped_name;
@@ -197,6 +197,16 @@ fn view_text(alloc: Global, picture: &Picture) -> Result<String, AllocError>
     format!(in alloc; "viewBox=\"0 0 {width} {height}\"")
 }
 
+/// The curves of a picture, and on top of them the boxes.
+#[tactic(auto, unfolding(crate::specs::Pictures::content_text))]
+fn content_text(alloc: Global, family: &Family, picture: &Picture) -> Result<String, AllocError>
+    ensures { IfOk result (λ text. string_bytes text ≡ content_text family.now picture.now) }
+{
+    let links = links_text(alloc, picture.links.as_slice())?;
+    let nodes = nodes_text(alloc, family, picture.nodes.as_slice())?;
+    format!(in alloc; "{links}{nodes}")
+}
+
 /// A picture.
 #[tactic(auto, unfolding(crate::specs::Pictures::picture_text))]
 pub(crate) fn picture_text(
@@ -206,11 +216,10 @@ pub(crate) fn picture_text(
 ) -> Result<String, AllocError>
     ensures { IfOk result (λ text. string_bytes text ≡ picture_text family.now picture.now) }
 {
-    let links = links_text(alloc, picture.links.as_slice())?;
-    let nodes = nodes_text(alloc, family, picture.nodes.as_slice())?;
     let size = size_text(alloc, picture)?;
     let view = view_text(alloc, picture)?;
+    let content = content_text(alloc, family, picture)?;
     format!(in alloc;
-        "<div class=\"wide\"><svg class=\"net\" {size} {view}>\n{links}{nodes}</svg></div>\n"
+        "<div class=\"wide\"><svg class=\"net\" {size} {view}>\n{content}</svg></div>\n"
     )
 }
