@@ -21,7 +21,7 @@ pub wave_added : (verdicts : List Verdict) (wave : ℕ) (old new : List Bar) (te
     → IsBarAdded old text count new → All (IsWaveBar verdicts) new
 wave_added verdicts wave old new text count all is counts added =
     added_all (IsWaveBar verdicts) old new text count all
-    (λ bar label number. inl (wave, (label ∙ is, number ∙ counts))) added
+    (λ bar label number. inl (wave, label ∙ is, number ∙ counts)) added
 
 -- that of all later ones
 pub later_added : (verdicts : List Verdict) (wave : ℕ) (old new : List Bar) (text : List ℕ) (count : ℕ)
@@ -29,4 +29,4 @@ pub later_added : (verdicts : List Verdict) (wave : ℕ) (old new : List Bar) (t
     → count ≡ count_by (is_from_wave wave) verdicts → IsBarAdded old text count new → All (IsWaveBar verdicts) new
 later_added verdicts wave old new text count all is counts added =
     added_all (IsWaveBar verdicts) old new text count all
-    (λ bar label number. inr (wave, (label ∙ is, number ∙ counts))) added
+    (λ bar label number. inr (wave, label ∙ is, number ∙ counts)) added

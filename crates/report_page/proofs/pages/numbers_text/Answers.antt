@@ -1,4 +1,3 @@
-use Rattle.std.proofs.Common.{rules}
 use Rattle.report_page.proofs.pages.numbers_text.Goals as goal
 
 pub returns : goal.returns
@@ -7,5 +6,12 @@ returns c = record {
   has_waves = c.in_ok-waves.ensures;
   reasons = c.in_ok-reasons.reasons;
   has_reasons = c.in_ok-reasons.ensures;
-  is = search rules;
+  is = rw (
+    c.as_str.ensures.value,
+    c.as_str-2.ensures.value,
+    c.as_str-3.ensures.value,
+    c.in_ok-totals.ensures,
+    c.in_ok-built.ensures,
+    c.in_ok-left.ensures,
+  ) at c.in_ok-text.ensures;
 }
