@@ -140,7 +140,7 @@ fn list_overwritten_by<'a, F: Files>(
     words: &[&str],
     files: &mut F,
 ) -> Option<Clash<'a>>
-    ensures apart { result ≡ None → IfSome output (λ name. IsNoListOf name.now (texts words.now)) }
+    ensures apart { result ≡ None → IfSome output.entry (λ name. IsNoListOf name.now (texts words.now)) }
     ensures same { F.holds files.new ≡ F.holds files.old }
 {
     match output {

@@ -44,10 +44,10 @@ pub(crate) fn put_page<F: Files>(
     page: &[u8],
     files: &mut F,
 ) -> Result<(), CommandFault>
-    ensures put { OnOk result (IsPagePut (F.holds files.old) (F.holds files.new) name page.now) }
-    ensures others { OthersStayIf (F.holds files.old) (F.holds files.new) name }
+    ensures put { OnOk result (IsPagePut (F.holds files.old) (F.holds files.new) name.entry page.now) }
+    ensures others { OthersStayIf (F.holds files.old) (F.holds files.new) name.entry }
     ensures left { IfErr result
-        (λ refusal. LeavesIf (F.holds files.old) (F.holds files.new) name (refusal_status refusal)) }
+        (λ refusal. LeavesIf (F.holds files.old) (F.holds files.new) name.entry (refusal_status refusal)) }
 {
     match name {
         Some(name) => put(alloc, name, page, files),

@@ -5,9 +5,13 @@ use Rattle.std.specs.Cmp.{IsStrictWeakOrder}
 use Rattle.std.proofs.lemmas.Cmp.{nat_cmp_total}
 use Rattle.std.proofs.lemmas.List.{get_or_append_left, get_or_push}
 use Rattle.std.proofs.lemmas.List.Sorted.{IsStrictWeakOrder-flip, ranks_by}
+use Rattle.semantics.specs.Quiet.{Environment}
+use Rattle.program.specs.Tables.{Tables}
+use Rattle.machine.specs.Linked.{program_of}
 use Rattle.initializer_analysis.specs.declared.verdict.Verdict.{Verdict}
 use Rattle.object_graph.specs.Images.{ImageTables}
 use Rattle.explain.specs.Costs.{by_cost, IsCostOf}
+use Rattle.explain.specs.Reruns.{IsLeast, without}
 use Rattle.explain.specs.declared.costs.Cost.{Cost}
 use Rattle.explain.specs.steps.FirstCosts.{AreFirstCosts}
 
@@ -29,6 +33,14 @@ costs_more I verdicts greatest n verdict costs more count before at one c low = 
       subst (λ (o : Option Cost). IsCostOf I greatest c v o)
       (sym (get_or_append_left costs (more ∷ []) None c (omega (arith, less, count)))) (before c less v is)
 ]
+
+-- the least budget, by other words for a program and for what is at hand
+pub least_same : (P Q : Tables) (one other : Environment) (c greatest cost : ℕ)
+    → IsLeast (program_of P) (without one c) c greatest cost → P ≡ Q → one ≡ other
+    → IsLeast (program_of Q) (without other c) c greatest cost
+least_same P Q one other c greatest cost least same also =
+    subst (λ (env : Environment). IsLeast (program_of Q) (without env c) c greatest cost) also
+    (subst (λ (R : Tables). IsLeast (program_of R) (without one c) c greatest cost) same least)
 
 -- by the order that puts the greater first
 abbrev pub dearer : Cost → Cost → Bool

@@ -4,7 +4,8 @@ ghost use Rattle.std.specs.Prelude.{◌≡◌, ◌≤◌, length, IfOk, string_b
 ghost use Rattle.use_graph.specs.Uses.{AreUses};
 ghost use Rattle.use_graph.specs.steps.Bodies.{IsUseGraph};
 ghost use Rattle.explain.specs.Texts.{IsTextAmongAll};
-ghost use Rattle.explain.specs.steps.Known.{IsOverview};
+ghost use Rattle.explain.specs.steps.Known.{IsKnown, IsOverview};
+ghost use Rattle.explain.specs.steps.Roots.{AreRoots};
 
 use crate::blamed::{Blamed, most_blamed, roots_of};
 use crate::chain_lines::ends_text;
@@ -17,6 +18,32 @@ use object_graph::Image;
 use program::Program;
 use std::alloc::{AllocError, Global};
 use use_graph::class_uses::Uses;
+
+/// The explanation of a class among all: without a run and calls, and with the end of such a chain alone.
+fn text_among_all(
+    alloc: Global,
+    image: &Image,
+    verdicts: &[Verdict],
+    forced: &Forced,
+    roots: &[usize],
+    known: &mut Knowledge,
+    class: u32,
+) -> Result<String, AllocError>
+    requires known { IsKnown image.now.program verdicts.now known.old }
+    requires roots { AreRoots verdicts.now roots.now }
+    ensures known { IsKnown image.now.program verdicts.now known.new }
+    ensures text { IfOk result
+        (λ text. IsTextAmongAll image.now verdicts.now forced.now class (string_bytes text)) }
+{
+    let program = image.program();
+    let family = program.family();
+    let explanation = known.explain(alloc, program, verdicts, forced, false, class)?;
+    let verdict = verdict_line(alloc, image, class, explanation.verdict)?;
+    let reasons = reason_lines(alloc, family, class, &explanation)?;
+    let ends = ends_text(alloc, family, verdicts, roots, class, explanation.first)?;
+    let text = format!(in alloc; "{verdict}{reasons}{ends}")?;
+    Ok(text)
+}
 
 /// What is known of all classes of an image.
 #[derive(Drop)]
@@ -62,16 +89,15 @@ impl Overview {
         ensures text { IfOk result
             (λ text. IsTextAmongAll image.now verdicts.now forced.now class (string_bytes text)) }
     {
-        let program = image.program();
-        let family = program.family();
-        let explanation = self
-            .known
-            .explain(alloc, program, verdicts, forced, false, class)?;
-        let verdict = verdict_line(alloc, image, class, explanation.verdict)?;
-        let reasons = reason_lines(alloc, family, class, &explanation)?;
-        let roots = self.roots.as_slice();
-        let ends = ends_text(alloc, family, verdicts, roots, class, explanation.first)?;
-        format!(in alloc; "{verdict}{reasons}{ends}")
+        text_among_all(
+            alloc,
+            image,
+            verdicts,
+            forced,
+            self.roots.as_slice(),
+            &mut self.known,
+            class,
+        )
     }
 
     /// What the initialization of a class may run and use.

@@ -148,16 +148,48 @@ fn nearest(wish: u64, low: u64, high: u64) -> u64
     }
 }
 
-/// Where to try next once all below `low` are known to be too little: not far above, but no further than half the way.
+/// Where to try next above `low`: not far, but no further than half the way to `high`.
 fn upwards(low: u64, high: u64, stride: u64) -> u64 {
     let half = high.saturating_sub(low) / 2;
     low.saturating_add(stride.min(half))
 }
 
-/// Where to try next once `high` is known to be enough: not far below, but no further than half the way.
+/// Where to try next below `high`: not far, but no further than half the way to `low`.
 fn downwards(low: u64, high: u64, stride: u64) -> u64 {
     let half = high.saturating_sub(low) / 2;
     high.saturating_sub(1).saturating_sub(stride.min(half))
+}
+
+/// Tries whose strides double, from a first one on.
+#[derive(Clone, Copy)]
+struct Tries {
+    last: u64,
+    stride: u64,
+}
+
+/// Where to try next, by what the last try has shown: it was too little where it is below `low`.
+fn wish_of(tries: Tries, low: u64, high: u64) -> u64 {
+    if tries.stride == 0 {
+        tries.last
+    } else if tries.last < low {
+        upwards(low, high, tries.stride / 2)
+    } else {
+        downwards(low, high, tries.stride / 2)
+    }
+}
+
+/// The next try.
+fn next_try(tries: &mut Tries, low: u64, high: u64) -> u64
+    requires { low < high }
+    ensures low { low ≤ result }
+    ensures high { result < high }
+{
+    let next = nearest(wish_of(*tries, low, high), low, high);
+    *tries = Tries {
+        last: next,
+        stride: tries.stride.saturating_mul(2).saturating_add(1),
+    };
+    next
 }
 
 /// The least budget that an initializer does not cost more than, or the greatest. Tries begin just below a guess, and
@@ -175,18 +207,17 @@ fn least_budget(
 {
     let mut low = 0;
     let mut high = greatest;
-    let mut wish = guess.saturating_sub(1);
-    let mut stride = 0u64;
+    let mut tries = Tries {
+        last: guess.saturating_sub(1),
+        stride: 0,
+    };
     while low < high {
-        let middle = nearest(wish, low, high);
+        let middle = next_try(&mut tries, low, high);
         if costs_more(alloc, program, regions, class, middle)? {
             low = middle + 1;
-            wish = upwards(low, high, stride);
         } else {
             high = middle;
-            wish = downwards(low, high, stride);
         }
-        stride = stride.saturating_mul(2).saturating_add(1);
     }
     Ok(low)
 }

@@ -1,6 +1,6 @@
 -- Escaped text.
 use Rattle.std.proofs.Common.{◌≡◌, ◌≢◌, ◌∙◌, ◌==◌, ℕ, ◌+◌, ◌<◌, Bool, true, false, List, [], ◌∷◌, ◌++◌, length}
-use Rattle.std.proofs.Common.{get_or, take, refl, sym, ap, subst, arith, codes, if◌then◌else◌, tt}
+use Rattle.std.proofs.Common.{get_or, take, refl, sym, ap, subst, arith, codes, if◌then◌else◌}
 use Rattle.std.specs.List.{All, flat_map}
 use Rattle.std.specs.Char.{encode_utf8}
 use Rattle.std.specs.Str.{chars}
@@ -52,50 +52,88 @@ plain b less greater double single =
 amp_plain : All IsPlain (codes "&amp;")
 amp_plain = All-from_recursion IsPlain (codes "&amp;") (
   plain 38 refl refl refl refl,
-  plain 97 refl refl refl refl,
-  plain 109 refl refl refl refl,
-  plain 112 refl refl refl refl,
-  plain 59 refl refl refl refl,
-  tt,
+  (
+    plain 97 refl refl refl refl,
+    (
+      plain 109 refl refl refl refl,
+      (
+        plain 112 refl refl refl refl,
+        (
+          plain 59 refl refl refl refl,
+          tt,
+        ),
+      ),
+    ),
+  ),
 )
 
 less_plain : All IsPlain (codes "&lt;")
 less_plain = All-from_recursion IsPlain (codes "&lt;") (
   plain 38 refl refl refl refl,
-  plain 108 refl refl refl refl,
-  plain 116 refl refl refl refl,
-  plain 59 refl refl refl refl,
-  tt,
+  (
+    plain 108 refl refl refl refl,
+    (
+      plain 116 refl refl refl refl,
+      (
+        plain 59 refl refl refl refl,
+        tt,
+      ),
+    ),
+  ),
 )
 
 greater_plain : All IsPlain (codes "&gt;")
 greater_plain = All-from_recursion IsPlain (codes "&gt;") (
   plain 38 refl refl refl refl,
-  plain 103 refl refl refl refl,
-  plain 116 refl refl refl refl,
-  plain 59 refl refl refl refl,
-  tt,
+  (
+    plain 103 refl refl refl refl,
+    (
+      plain 116 refl refl refl refl,
+      (
+        plain 59 refl refl refl refl,
+        tt,
+      ),
+    ),
+  ),
 )
 
 double_plain : All IsPlain (codes "&quot;")
 double_plain = All-from_recursion IsPlain (codes "&quot;") (
   plain 38 refl refl refl refl,
-  plain 113 refl refl refl refl,
-  plain 117 refl refl refl refl,
-  plain 111 refl refl refl refl,
-  plain 116 refl refl refl refl,
-  plain 59 refl refl refl refl,
-  tt,
+  (
+    plain 113 refl refl refl refl,
+    (
+      plain 117 refl refl refl refl,
+      (
+        plain 111 refl refl refl refl,
+        (
+          plain 116 refl refl refl refl,
+          (
+            plain 59 refl refl refl refl,
+            tt,
+          ),
+        ),
+      ),
+    ),
+  ),
 )
 
 single_plain : All IsPlain (codes "&#39;")
 single_plain = All-from_recursion IsPlain (codes "&#39;") (
   plain 38 refl refl refl refl,
-  plain 35 refl refl refl refl,
-  plain 51 refl refl refl refl,
-  plain 57 refl refl refl refl,
-  plain 59 refl refl refl refl,
-  tt,
+  (
+    plain 35 refl refl refl refl,
+    (
+      plain 51 refl refl refl refl,
+      (
+        plain 57 refl refl refl refl,
+        (
+          plain 59 refl refl refl refl,
+          tt,
+        ),
+      ),
+    ),
+  ),
 )
 
 -- what stands for a character, by which of the five it is

@@ -19,24 +19,24 @@ use Rattle.report_page.specs.declared.totals.Totals.{Totals}
 -- ---- totals
 
 -- closed, since the text of all of them is long
-pub total_text : List ℕ → ℕ → List ℕ
+unfoldable pub total_text : List ℕ → ℕ → List ℕ
 total_text name number =
     codes "<div><dt>" ++ (name ++ (codes "</dt><dd>" ++ (decimal number ++ codes "</dd></div>")))
 
-abbrev pub counts_text : Totals → List ℕ
+unfoldable pub counts_text : Totals → List ℕ
 counts_text totals = total_text (codes "classes") totals.classes
     ++ (total_text (codes "at build time") totals.built
     ++ total_text (codes "at run time") (totals.classes - totals.built))
 
-abbrev pub objects_text : Totals → List ℕ
+unfoldable pub objects_text : Totals → List ℕ
 objects_text totals =
     total_text (codes "objects made") totals.made ++ total_text (codes "objects kept") totals.kept
 
-abbrev pub sums_text : Totals → List ℕ
+unfoldable pub sums_text : Totals → List ℕ
 sums_text totals = total_text (codes "cost") totals.cost
     ++ (objects_text totals ++ total_text (codes "bytes in the image") totals.bytes)
 
-abbrev pub totals_text : Totals → List ℕ
+unfoldable pub totals_text : Totals → List ℕ
 totals_text totals = codes "<dl>" ++ (counts_text totals ++ (sums_text totals ++ codes "</dl>\n"))
 
 -- what an accepted class has of a total
@@ -57,26 +57,28 @@ pub record AreTotals (verdicts : List Verdict) (dearest : List Cost) (totals : T
 
 -- ---- sections
 
-abbrev pub numbers_text : Totals → Bars → Bars → List ℕ
-numbers_text totals waves reasons =
-    totals_text totals
+-- totals, and bars of waves and of reasons
+abbrev pub numbers_of : List ℕ → List ℕ → List ℕ → List ℕ
+numbers_of totals waves reasons =
+    totals
     ++ (codes "<div class=\"two\"><section><h2>Initialized at build time, by wave</h2>\n"
     ++ (codes "<p>A class uses classes of earlier waves alone.</p>\n"
-    ++ (bars_text waves
+    ++ (waves
     ++ (codes "</section><section><h2>Left to run time, by reason</h2>\n"
     ++ (codes "<p>The first reason that holds of a class.</p>\n"
-    ++ (bars_text reasons ++ codes "</section></div>\n"))))))
+    ++ (reasons ++ codes "</section></div>\n"))))))
 
-abbrev pub pictures_text : Family → Picture → Picture → List ℕ
-pictures_text family left built =
+-- pictures of what keeps others, and of what uses what
+abbrev pub pictures_of : List ℕ → List ℕ → List ℕ
+pictures_of left built =
     codes "<section><h2>What keeps other classes at run time</h2>\n"
     ++ (codes "<p>The classes that keep the most others, with how many these are, and below each some of "
     ++ (codes "them.</p>\n"
-    ++ (picture_text family left
+    ++ (left
     ++ (codes "</section><section><h2>What uses what at build time</h2>\n"
     ++ (codes "<p>The dearest classes with what they cost, the first wave at the left, and a line from "
     ++ (codes "each to those that use it.</p>\n"
-    ++ (picture_text family built ++ codes "</section>\n")))))))
+    ++ (built ++ codes "</section>\n")))))))
 
 -- ---- the page
 
@@ -113,13 +115,13 @@ pub record AreNumbers (verdicts : List Verdict) (totals : Totals) (text : List �
   pub has_waves : All (IsWaveBar verdicts) waves.bars.items
   pub reasons : Bars
   pub has_reasons : All (IsReasonBar verdicts) reasons.bars.items
-  pub is : text ≡ numbers_text totals waves reasons
+  pub is : text ≡ numbers_of (totals_text totals) (bars_text waves) (bars_text reasons)
 
 -- Pictures of classes; which these are is left open.
 pub record ArePictures (family : Family) (text : List ℕ) : Type 0 where
   pub left : Picture
   pub built : Picture
-  pub is : text ≡ pictures_text family left built
+  pub is : text ≡ pictures_of (picture_text family left) (picture_text family built)
 
 -- A page of an image and the last verdicts on its classes, by what the accepted ones cost. There is a row for each
 -- class, in the order of their numbers. Of its style sheet and its script nothing is said.

@@ -13,16 +13,24 @@ use Rattle.report_page.specs.declared.drawing.Point.{Point}
 
 -- ---- bars
 
-abbrev pub bar_text : Bar → List ℕ
-bar_text bar = codes "<text x=\"122\" y=\"" ++ (decimal bar.base
-    ++ (codes "\" class=\"e\">" ++ (escaped (string_bytes bar.label)
-    ++ (codes "</text><rect x=\"130\" y=\"" ++ (decimal bar.y
-    ++ (codes "\" width=\"" ++ (decimal bar.length
-    ++ (codes "\" height=\"20\"/><text x=\"" ++ (decimal bar.after
-    ++ (codes "\" y=\"" ++ (decimal bar.base
-    ++ (codes "\" class=\"n\">" ++ (decimal bar.count ++ codes "</text>\n")))))))))))))
+-- the label of a bar, and the bar with its number; closed, as all that are parts of longer texts
+unfoldable pub label_text : Bar → List ℕ
+label_text bar = codes "<text x=\"122\" y=\"" ++ (decimal bar.base
+    ++ (codes "\" class=\"e\">" ++ (escaped (string_bytes bar.label) ++ codes "</text>")))
 
-abbrev pub bars_text : Bars → List ℕ
+unfoldable pub length_text : Bar → List ℕ
+length_text bar = codes "<rect x=\"130\" y=\"" ++ (decimal bar.y
+    ++ (codes "\" width=\"" ++ (decimal bar.length ++ codes "\" height=\"20\"/>")))
+
+unfoldable pub count_text : Bar → List ℕ
+count_text bar = codes "<text x=\"" ++ (decimal bar.after
+    ++ (codes "\" y=\"" ++ (decimal bar.base
+    ++ (codes "\" class=\"n\">" ++ (decimal bar.count ++ codes "</text>\n")))))
+
+abbrev pub bar_text : Bar → List ℕ
+bar_text bar = label_text bar ++ (length_text bar ++ count_text bar)
+
+unfoldable pub bars_text : Bars → List ℕ
 bars_text bars = codes "<svg class=\"bars\" viewBox=\"0 0 380 " ++ (decimal bars.height
     ++ (codes "\" role=\"img\">\n" ++ (flat_map bar_text bars.bars.items ++ codes "</svg>\n")))
 
@@ -38,16 +46,25 @@ number_text node (Some number) = codes "<text x=\"" ++ (decimal node.right
     ++ (codes "\" y=\"" ++ (decimal node.base
     ++ (codes "\" class=\"e n\">" ++ (decimal number ++ codes "</text>")))))
 
--- the box of a class, with its name, which is told whole where there is no room for it
+-- the box of a class
+unfoldable pub box_text : Node → List ℕ
+box_text node = codes "<rect x=\"" ++ (decimal node.x
+    ++ (codes "\" y=\"" ++ (decimal node.y ++ codes "\" width=\"270\" height=\"24\" rx=\"3\"/>")))
+
+-- its name there, of which the end is seen where there is no room for all
+unfoldable pub inner_text : Node → List ℕ → List ℕ
+inner_text node name = codes "<svg x=\"" ++ (decimal node.inner
+    ++ (codes "\" y=\"" ++ (decimal node.y
+    ++ (codes "\" width=\"206\" height=\"24\"><text x=\"206\" y=\"16\" class=\"e\">" ++ (name
+    ++ codes "</text></svg>")))))
+
+-- the box of a class with its name, which is told whole where there is no room for it
 abbrev pub node_text : Family → Node → List ℕ
 node_text family node = codes "<a href=\"#c" ++ (decimal node.class
     ++ (codes "\"><title>" ++ (name_text family node.class
-    ++ (codes "</title><rect x=\"" ++ (decimal node.x
-    ++ (codes "\" y=\"" ++ (decimal node.y
-    ++ (codes "\" width=\"270\" height=\"24\" rx=\"3\"/><svg x=\"" ++ (decimal node.inner
-    ++ (codes "\" y=\"" ++ (decimal node.y
-    ++ (codes "\" width=\"206\" height=\"24\"><text x=\"206\" y=\"16\" class=\"e\">" ++ (name_text family node.class
-    ++ (codes "</text></svg>" ++ (number_text node node.number ++ codes "</a>\n")))))))))))))))
+    ++ (codes "</title>" ++ (box_text node
+    ++ (inner_text node (name_text family node.class)
+    ++ (number_text node node.number ++ codes "</a>\n")))))))
 
 abbrev pub point_text : Point → List ℕ
 point_text point = decimal point.x ++ (codes " " ++ decimal point.y)
@@ -58,10 +75,21 @@ link_text link = codes "<path d=\"M" ++ (point_text link.from
     ++ (codes " " ++ (point_text link.second
     ++ (codes " " ++ (point_text link.to ++ codes "\"/>\n")))))))
 
-abbrev pub picture_text : Family → Picture → List ℕ
-picture_text family picture = codes "<div class=\"wide\"><svg class=\"net\" width=\"" ++ (decimal picture.width
-    ++ (codes "\" height=\"" ++ (decimal picture.height
-    ++ (codes "\" viewBox=\"0 0 " ++ (decimal picture.width
-    ++ (codes " " ++ (decimal picture.height
-    ++ (codes "\">\n" ++ (flat_map link_text picture.links.items
-    ++ (flat_map (λ node. node_text family node) picture.nodes.items ++ codes "</svg></div>\n"))))))))))
+-- how large it is, and what of it is seen
+unfoldable pub size_text : Picture → List ℕ
+size_text picture = codes "width=\"" ++ (decimal picture.width
+    ++ (codes "\" height=\"" ++ (decimal picture.height ++ codes "\"")))
+
+unfoldable pub view_text : Picture → List ℕ
+view_text picture = codes "viewBox=\"0 0 " ++ (decimal picture.width
+    ++ (codes " " ++ (decimal picture.height ++ codes "\"")))
+
+-- the curves, and on top of them the boxes
+unfoldable pub content_text : Family → Picture → List ℕ
+content_text family picture =
+    flat_map link_text picture.links.items ++ flat_map (λ node. node_text family node) picture.nodes.items
+
+unfoldable pub picture_text : Family → Picture → List ℕ
+picture_text family picture = codes "<div class=\"wide\"><svg class=\"net\" " ++ (size_text picture
+    ++ (codes " " ++ (view_text picture
+    ++ (codes ">\n" ++ (content_text family picture ++ codes "</svg></div>\n")))))

@@ -2,7 +2,7 @@
 
 ghost use Rattle.std.specs.Prelude.{◌≡◌, [], IfOk, OnOk, string_bytes};
 ghost use Rattle.std.specs.List.{flat_map};
-ghost use Rattle.report_page.specs.Pictures.{bar_text, bars_text};
+ghost use Rattle.report_page.specs.Pictures.{bar_text, bars_text, count_text, label_text, length_text};
 ghost use Rattle.report_page.specs.Counts.{IsBarAdded};
 
 use crate::escaping::escaped;
@@ -76,20 +76,45 @@ impl Bars {
     }
 }
 
+/// The label of a bar.
+#[tactic(auto, unfolding(crate::specs::Pictures::label_text))]
+fn label_text(alloc: Global, bar: &Bar) -> Result<String, AllocError>
+    ensures { IfOk result (λ text. string_bytes text ≡ label_text bar.now) }
+{
+    let label = escaped(alloc, bar.label.as_str())?;
+    let base = bar.base;
+    format!(in alloc; "<text x=\"122\" y=\"{base}\" class=\"e\">{label}</text>")
+}
+
+/// A bar without its texts.
+#[tactic(auto, unfolding(crate::specs::Pictures::length_text))]
+fn length_text(alloc: Global, bar: &Bar) -> Result<String, AllocError>
+    ensures { IfOk result (λ text. string_bytes text ≡ length_text bar.now) }
+{
+    let y = bar.y;
+    let length = bar.length;
+    format!(in alloc; "<rect x=\"130\" y=\"{y}\" width=\"{length}\" height=\"20\"/>")
+}
+
+/// The number at a bar.
+#[tactic(auto, unfolding(crate::specs::Pictures::count_text))]
+fn count_text(alloc: Global, bar: &Bar) -> Result<String, AllocError>
+    ensures { IfOk result (λ text. string_bytes text ≡ count_text bar.now) }
+{
+    let after = bar.after;
+    let base = bar.base;
+    let count = bar.count;
+    format!(in alloc; "<text x=\"{after}\" y=\"{base}\" class=\"n\">{count}</text>\n")
+}
+
 /// A bar.
 fn bar_text(alloc: Global, bar: &Bar) -> Result<String, AllocError>
     ensures { IfOk result (λ text. string_bytes text ≡ bar_text bar.now) }
 {
-    let label = escaped(alloc, bar.label.as_str())?;
-    let count = bar.count;
-    let length = bar.length;
-    let y = bar.y;
-    let base = bar.base;
-    let after = bar.after;
-    format!(in alloc;
-        "<text x=\"122\" y=\"{base}\" class=\"e\">{label}</text><rect x=\"130\" y=\"{y}\" width=\"{length}\" \
-         height=\"20\"/><text x=\"{after}\" y=\"{base}\" class=\"n\">{count}</text>\n"
-    )
+    let label = label_text(alloc, bar)?;
+    let length = length_text(alloc, bar)?;
+    let count = count_text(alloc, bar)?;
+    format!(in alloc; "{label}{length}{count}")
 }
 
 /// All bars.
@@ -105,6 +130,7 @@ fn drawn(alloc: Global, bars: &[Bar]) -> Result<String, AllocError>
 }
 
 /// A picture of bars.
+#[tactic(auto, unfolding(crate::specs::Pictures::bars_text))]
 pub(crate) fn bars_text(alloc: Global, bars: &Bars) -> Result<String, AllocError>
     ensures { IfOk result (λ text. string_bytes text ≡ bars_text bars.now) }
 {

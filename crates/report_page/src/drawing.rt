@@ -2,7 +2,8 @@
 
 ghost use Rattle.std.specs.Prelude.{◌≡◌, IfOk, string_bytes};
 ghost use Rattle.std.specs.List.{flat_map};
-ghost use Rattle.report_page.specs.Pictures.{link_text, node_text, number_text, picture_text, point_text};
+ghost use Rattle.report_page.specs.Pictures.{box_text, content_text, inner_text, link_text, node_text, number_text};
+ghost use Rattle.report_page.specs.Pictures.{picture_text, point_text, size_text, view_text};
 
 use crate::escaping::escaped_name;
 use loading::family::Family;
@@ -98,21 +99,39 @@ fn number_text(alloc: Global, node: Node) -> Result<String, AllocError>
     format!(in alloc; "<text x=\"{right}\" y=\"{base}\" class=\"e n\">{number}</text>")
 }
 
-/// The box of a class. Where its name has no room, its end is seen.
+/// The box of a class.
+#[tactic(auto, unfolding(crate::specs::Pictures::box_text))]
+fn box_text(alloc: Global, node: Node) -> Result<String, AllocError>
+    ensures { IfOk result (λ text. string_bytes text ≡ box_text node) }
+{
+    let x = node.x;
+    let y = node.y;
+    format!(in alloc; "<rect x=\"{x}\" y=\"{y}\" width=\"270\" height=\"24\" rx=\"3\"/>")
+}
+
+/// A name in its box, of which the end is seen where there is no room for all.
+#[tactic(auto, unfolding(crate::specs::Pictures::inner_text))]
+fn inner_text(alloc: Global, node: Node, name: &str) -> Result<String, AllocError>
+    ensures { IfOk result (λ text. string_bytes text ≡ inner_text node name.now) }
+{
+    let inner = node.inner;
+    let y = node.y;
+    format!(in alloc;
+        "<svg x=\"{inner}\" y=\"{y}\" width=\"206\" height=\"24\">\
+         <text x=\"206\" y=\"16\" class=\"e\">{name}</text></svg>"
+    )
+}
+
+/// The box of a class with its name.
 fn node_text(alloc: Global, family: &Family, node: Node) -> Result<String, AllocError>
     ensures { IfOk result (λ text. string_bytes text ≡ node_text family.now node) }
 {
     let class = node.class;
-    let x = node.x;
-    let y = node.y;
-    let inner = node.inner;
     let name = escaped_name(alloc, family, class)?;
+    let rect = box_text(alloc, node)?;
+    let inner = inner_text(alloc, node, name.as_str())?;
     let number = number_text(alloc, node)?;
-    format!(in alloc;
-        "<a href=\"#c{class}\"><title>{name}</title><rect x=\"{x}\" y=\"{y}\" width=\"270\" height=\"24\" rx=\"3\"/>\
-         <svg x=\"{inner}\" y=\"{y}\" width=\"206\" height=\"24\"><text x=\"206\" y=\"16\" class=\"e\">{name}</text>\
-         </svg>{number}</a>\n"
-    )
+    format!(in alloc; "<a href=\"#c{class}\"><title>{name}</title>{rect}{inner}{number}</a>\n")
 }
 
 /// A place, as a picture's text has it.
@@ -158,7 +177,38 @@ fn nodes_text(alloc: Global, family: &Family, nodes: &[Node]) -> Result<String, 
     Ok(drawn)
 }
 
+/// How large a picture is.
+#[tactic(auto, unfolding(crate::specs::Pictures::size_text))]
+fn size_text(alloc: Global, picture: &Picture) -> Result<String, AllocError>
+    ensures { IfOk result (λ text. string_bytes text ≡ size_text picture.now) }
+{
+    let width = picture.width;
+    let height = picture.height;
+    format!(in alloc; "width=\"{width}\" height=\"{height}\"")
+}
+
+/// What of a picture is seen: all.
+#[tactic(auto, unfolding(crate::specs::Pictures::view_text))]
+fn view_text(alloc: Global, picture: &Picture) -> Result<String, AllocError>
+    ensures { IfOk result (λ text. string_bytes text ≡ view_text picture.now) }
+{
+    let width = picture.width;
+    let height = picture.height;
+    format!(in alloc; "viewBox=\"0 0 {width} {height}\"")
+}
+
+/// The curves of a picture, and on top of them the boxes.
+#[tactic(auto, unfolding(crate::specs::Pictures::content_text))]
+fn content_text(alloc: Global, family: &Family, picture: &Picture) -> Result<String, AllocError>
+    ensures { IfOk result (λ text. string_bytes text ≡ content_text family.now picture.now) }
+{
+    let links = links_text(alloc, picture.links.as_slice())?;
+    let nodes = nodes_text(alloc, family, picture.nodes.as_slice())?;
+    format!(in alloc; "{links}{nodes}")
+}
+
 /// A picture.
+#[tactic(auto, unfolding(crate::specs::Pictures::picture_text))]
 pub(crate) fn picture_text(
     alloc: Global,
     family: &Family,
@@ -166,12 +216,10 @@ pub(crate) fn picture_text(
 ) -> Result<String, AllocError>
     ensures { IfOk result (λ text. string_bytes text ≡ picture_text family.now picture.now) }
 {
-    let links = links_text(alloc, picture.links.as_slice())?;
-    let nodes = nodes_text(alloc, family, picture.nodes.as_slice())?;
-    let width = picture.width;
-    let height = picture.height;
+    let size = size_text(alloc, picture)?;
+    let view = view_text(alloc, picture)?;
+    let content = content_text(alloc, family, picture)?;
     format!(in alloc;
-        "<div class=\"wide\"><svg class=\"net\" width=\"{width}\" height=\"{height}\" \
-         viewBox=\"0 0 {width} {height}\">\n{links}{nodes}</svg></div>\n"
+        "<div class=\"wide\"><svg class=\"net\" {size} {view}>\n{content}</svg></div>\n"
     )
 }

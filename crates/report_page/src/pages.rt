@@ -2,7 +2,7 @@
 
 ghost use Rattle.std.specs.Prelude.{◌≡◌, length, IfOk, string_bytes};
 ghost use Rattle.explain.specs.steps.Known.{IsOverview};
-ghost use Rattle.report_page.specs.Pages.{page_text, AreNumbers, ArePictures, IsPage, IsPageOf};
+ghost use Rattle.report_page.specs.Pages.{numbers_of, page_text, pictures_of, AreNumbers, ArePictures, IsPage, IsPageOf};
 
 use crate::bars::bars_text;
 use crate::counts::{reason_bars, wave_bars};
@@ -18,22 +18,43 @@ use initializer_analysis::verdict::Verdict;
 use object_graph::Image;
 use std::alloc::{AllocError, Global};
 
+/// The totals and the pictures of bars, of their texts.
+fn numbers_of(alloc: Global, totals: &str, waves: &str, reasons: &str) -> Result<String, AllocError>
+    ensures { IfOk result (λ text. string_bytes text ≡ numbers_of totals.now waves.now reasons.now) }
+{
+    format!(in alloc;
+        "{totals}<div class=\"two\"><section><h2>Initialized at build time, by wave</h2>\n\
+         <p>A class uses classes of earlier waves alone.</p>\n{waves}</section><section>\
+         <h2>Left to run time, by reason</h2>\n\
+         <p>The first reason that holds of a class.</p>\n{reasons}</section></div>\n"
+    )
+}
+
 /// The totals and the pictures of bars.
 fn numbers_text(alloc: Global, verdicts: &[Verdict], totals: Totals) -> Result<String, AllocError>
     ensures { IfOk result (λ text. AreNumbers verdicts.now totals (string_bytes text)) }
 {
     let totals = totals_text(alloc, totals)?;
     let waves = wave_bars(alloc, verdicts)?;
-    let waves = bars_text(alloc, &waves)?;
     let reasons = reason_bars(alloc, verdicts)?;
-    let reasons = bars_text(alloc, &reasons)?;
-    let text = format!(in alloc;
-        "{totals}<div class=\"two\"><section><h2>Initialized at build time, by wave</h2>\n\
-         <p>A class uses classes of earlier waves alone.</p>\n{waves}</section><section>\
-         <h2>Left to run time, by reason</h2>\n\
-         <p>The first reason that holds of a class.</p>\n{reasons}</section></div>\n"
-    )?;
+    let built = bars_text(alloc, &waves)?;
+    let left = bars_text(alloc, &reasons)?;
+    let text = numbers_of(alloc, totals.as_str(), built.as_str(), left.as_str())?;
     Ok(text)
+}
+
+/// The pictures of what depends on what, of their texts.
+fn pictures_of(alloc: Global, left: &str, built: &str) -> Result<String, AllocError>
+    ensures { IfOk result (λ text. string_bytes text ≡ pictures_of left.now built.now) }
+{
+    format!(in alloc;
+        "<section><h2>What keeps other classes at run time</h2>\n\
+         <p>The classes that keep the most others, with how many these are, and below each some of \
+         them.</p>\n{left}</section>\
+         <section><h2>What uses what at build time</h2>\n\
+         <p>The dearest classes with what they cost, the first wave at the left, and a line from each to those \
+         that use it.</p>\n{built}</section>\n"
+    )
 }
 
 /// The pictures of what depends on what.
@@ -50,18 +71,11 @@ fn pictures_text(
     let program = image.program();
     let family = program.family();
     let roots = overview.most_blamed(alloc, 10)?;
-    let left = forest(alloc, verdicts, roots.as_slice())?;
-    let left = picture_text(alloc, family, &left)?;
-    let built = uses_picture(alloc, program, overview, verdicts, dearest)?;
-    let built = picture_text(alloc, family, &built)?;
-    let text = format!(in alloc;
-        "<section><h2>What keeps other classes at run time</h2>\n\
-         <p>The classes that keep the most others, with how many these are, and below each some of \
-         them.</p>\n{left}</section>\
-         <section><h2>What uses what at build time</h2>\n\
-         <p>The dearest classes with what they cost, the first wave at the left, and a line from each to those \
-         that use it.</p>\n{built}</section>\n"
-    )?;
+    let below = forest(alloc, verdicts, roots.as_slice())?;
+    let uses = uses_picture(alloc, program, overview, verdicts, dearest)?;
+    let left = picture_text(alloc, family, &below)?;
+    let built = picture_text(alloc, family, &uses)?;
+    let text = pictures_of(alloc, left.as_str(), built.as_str())?;
     Ok(text)
 }
 
@@ -118,14 +132,15 @@ fn page_by(
     let pictures = pictures_text(alloc, image, verdicts, dearest, overview)?;
     let count = image.program().given_count();
     let rows = rows(alloc, image, verdicts, forced, costs, overview, count)?;
-    page_text(
+    let text = page_text(
         alloc,
         STYLE,
         numbers.as_str(),
         pictures.as_str(),
         rows.as_str(),
         SCRIPT,
-    )
+    )?;
+    Ok(text)
 }
 
 /// The page of a build with this budget, where these classes are forced to run time.

@@ -76,6 +76,7 @@ fn total_text(alloc: Global, name: &str, number: u128) -> Result<String, AllocEr
 }
 
 /// How many classes there are, and how many of them start initialized and how many do not.
+#[tactic(auto, unfolding(crate::specs::Pages::counts_text))]
 fn counts_text(alloc: Global, totals: Totals) -> Result<String, AllocError>
     ensures { IfOk result (λ text. string_bytes text ≡ counts_text totals) }
 {
@@ -87,6 +88,7 @@ fn counts_text(alloc: Global, totals: Totals) -> Result<String, AllocError>
 }
 
 /// How many objects those made that start initialized, and how many are kept.
+#[tactic(auto, unfolding(crate::specs::Pages::objects_text))]
 fn objects_text(alloc: Global, totals: Totals) -> Result<String, AllocError>
     ensures { IfOk result (λ text. string_bytes text ≡ objects_text totals) }
 {
@@ -96,6 +98,7 @@ fn objects_text(alloc: Global, totals: Totals) -> Result<String, AllocError>
 }
 
 /// What those cost and leave that start initialized.
+#[tactic(auto, unfolding(crate::specs::Pages::sums_text))]
 fn sums_text(alloc: Global, totals: Totals) -> Result<String, AllocError>
     ensures { IfOk result (λ text. string_bytes text ≡ sums_text totals) }
 {
@@ -106,6 +109,7 @@ fn sums_text(alloc: Global, totals: Totals) -> Result<String, AllocError>
 }
 
 /// The totals.
+#[tactic(auto, unfolding(crate::specs::Pages::totals_text))]
 pub(crate) fn totals_text(alloc: Global, totals: Totals) -> Result<String, AllocError>
     ensures { IfOk result (λ text. string_bytes text ≡ totals_text totals) }
 {

@@ -13,7 +13,7 @@ returns c =
       has_each = subst
           (λ (n : ℕ). AreEachBelow (IsTextAmongAll c.args.image.now c.args.verdicts.now c.args.forced.now) n each)
           (c.given_count-count.ensures.value ∙ ap (λ (P : Tables). length P.classes) c.program-program.ensures)
-          c.in_ok-each.ensures;
+          c.in_ok-each.ensures.text;
       blamed = blamed;
       has_blamed = subst (λ (family : Family). AreAtMost 10 (IsBlamedLine family) blamed)
           (c.family.ensures ∙ ap (λ (P : Tables). P.family) c.program-program.ensures) c.in_ok-blamed.ensures;

@@ -1,8 +1,3 @@
-use Rattle.std.proofs.Common.{◌∙◌, List, ℕ, ap}
-use Rattle.std.specs.List.{flat_map}
-use Rattle.loading.specs.Families.{Family}
-use Rattle.program.specs.Tables.{Tables}
-use Rattle.explain.specs.Costs.{cost_text}
 use Rattle.explain.proofs.lines.costs_text.Goals as goal
 
 pub returns : goal.returns
@@ -10,6 +5,6 @@ returns c = record {
   costs = c.in_ok-costs.costs.items;
   are = c.in_ok-costs.ensures;
   dearest = c.in_ok-dearest.dearest.items;
-  sorted = c.in_ok-dearest.ensures;
-  is = c.in_ok-text.ensures;
+  sorted = rw c.as_slice.ensures.value at c.in_ok-dearest.ensures;
+  is = rw (c.as_slice-2.ensures.value, c.family.ensures, c.program.ensures) at c.in_ok-text.ensures;
 }
