@@ -180,7 +180,7 @@ texts_left : (old mid new : Contents) (words : Build) (made : BuildTexts) (statu
     → IsPagePut old mid words.page made.page.items
     → LeavesTexts mid new words.image.now words.report made.report.items status → LeavesAll old new words made status
 texts_left old mid new words made Done put left = absurd left
-texts_left old mid new words made Refused put left = inr (mid, (put, left))
+texts_left old mid new words made Refused put left = inr (mid, put, left)
 texts_left old mid new words made Words put left = absurd left
 texts_left old mid new words made Failed put left =
     λ other image report page. left other image report
@@ -228,7 +228,7 @@ module _ (old new : Contents) (words : Build) (files : List (List ℕ)) (options
   by_status : (status : Status) → LeavesAll old new words made status → HasLeft old new (requests.Build words) status
   by_status Done left = absurd left
   by_status Refused (inl same) = inl same
-  by_status Refused (inr (between, (put, left))) = inr (record {
+  by_status Refused (inr (between, put, left)) = inr (record {
     answer = of.answer;
     asked = record {
       files = files;
