@@ -1,2 +1,3 @@
 pub mod EscapesLemmas
 pub mod CountsLemmas
+pub mod PagesLemmas

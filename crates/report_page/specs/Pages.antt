@@ -82,7 +82,7 @@ pictures_of left built =
 
 -- ---- the page
 
-abbrev pub page_text : List ℕ → List ℕ → List ℕ → List ℕ → List ℕ → List ℕ
+unfoldable pub page_text : List ℕ → List ℕ → List ℕ → List ℕ → List ℕ → List ℕ
 page_text style numbers pictures rows script =
     codes "<!DOCTYPE html>\n<html lang=\"en\"><head><meta charset=\"utf-8\">\n"
     ++ (codes "<meta name=\"viewport\" content=\"width=device-width,initial-scale=1\">\n"

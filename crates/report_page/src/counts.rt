@@ -117,7 +117,6 @@ fn greatest_reason(verdicts: &[Verdict]) -> usize {
 }
 
 /// Adds the bar of a wave, if there are classes of it.
-#[tactic(auto, using(crate::proofs::CountsLemmas::wave_added))]
 fn add_wave(
     alloc: Global,
     verdicts: &[Verdict],
@@ -138,7 +137,6 @@ fn add_wave(
 }
 
 /// Adds the bar of all waves from one on, if there are classes of these.
-#[tactic(auto, using(crate::proofs::CountsLemmas::later_added))]
 fn add_later(
     alloc: Global,
     verdicts: &[Verdict],

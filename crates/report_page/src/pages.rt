@@ -80,6 +80,7 @@ fn pictures_text(
 }
 
 /// The page of its parts.
+#[tactic(auto, unfolding(crate::specs::Pages::page_text))]
 fn page_text(
     alloc: Global,
     style: &str,

@@ -9,7 +9,7 @@ returns c = record {
     c.as_str-2.ensures.value,
     c.in_ok-left.ensures,
     c.in_ok-built.ensures,
-    c.family.ensures,
-    c.program.ensures,
+    c.family-family.ensures,
+    c.program-program.ensures,
   ) at c.in_ok-text.ensures;
 }
