@@ -12,6 +12,8 @@ use Rattle.report_page.specs.Pictures.{bars_text, picture_text}
 use Rattle.report_page.specs.Rows.{IsRow}
 use Rattle.report_page.specs.declared.bars.Bars.{Bars}
 use Rattle.report_page.specs.declared.drawing.Picture.{Picture}
+use Rattle.report_page.specs.declared.totals.Part.{Part}
+use Rattle.report_page.specs.declared.totals.Part.TheVariants as parts
 use Rattle.report_page.specs.declared.totals.Totals.{Totals}
 
 -- ---- totals
@@ -20,23 +22,35 @@ abbrev pub total_text : List ℕ → ℕ → List ℕ
 total_text name number =
     codes "<div><dt>" ++ (name ++ (codes "</dt><dd>" ++ (decimal number ++ codes "</dd></div>")))
 
-abbrev pub totals_text : Totals → List ℕ
-totals_text totals = codes "<dl>" ++ (total_text (codes "classes") totals.classes
+abbrev pub counts_text : Totals → List ℕ
+counts_text totals = total_text (codes "classes") totals.classes
     ++ (total_text (codes "at build time") totals.built
-    ++ (total_text (codes "at run time") (totals.classes - totals.built)
-    ++ (total_text (codes "cost") totals.cost
+    ++ total_text (codes "at run time") (totals.classes - totals.built))
+
+abbrev pub sums_text : Totals → List ℕ
+sums_text totals = total_text (codes "cost") totals.cost
     ++ (total_text (codes "objects made") totals.made
     ++ (total_text (codes "objects kept") totals.kept
-    ++ (total_text (codes "bytes in the image") totals.bytes ++ codes "</dl>\n")))))))
+    ++ total_text (codes "bytes in the image") totals.bytes))
+
+abbrev pub totals_text : Totals → List ℕ
+totals_text totals = codes "<dl>" ++ (counts_text totals ++ (sums_text totals ++ codes "</dl>\n"))
+
+-- what an accepted class has of a total
+abbrev pub part_of : Part → Cost → ℕ
+part_of parts.Cost found = found.cost
+part_of parts.Made found = found.made
+part_of parts.Kept found = found.kept
+part_of parts.Bytes found = found.bytes
 
 -- how many classes there are and how many are accepted, and what these cost, made and keep together
 pub record AreTotals (verdicts : List Verdict) (dearest : List Cost) (totals : Totals) : Type 0 where
   pub classes : totals.classes ≡ length verdicts
   pub built : totals.built ≡ length dearest
-  pub cost : totals.cost ≡ sum_by (λ found. found.cost) dearest
-  pub made : totals.made ≡ sum_by (λ found. found.made) dearest
-  pub kept : totals.kept ≡ sum_by (λ found. found.kept) dearest
-  pub bytes : totals.bytes ≡ sum_by (λ found. found.bytes) dearest
+  pub cost : totals.cost ≡ sum_by (part_of parts.Cost) dearest
+  pub made : totals.made ≡ sum_by (part_of parts.Made) dearest
+  pub kept : totals.kept ≡ sum_by (part_of parts.Kept) dearest
+  pub bytes : totals.bytes ≡ sum_by (part_of parts.Bytes) dearest
 
 -- ---- sections
 
@@ -104,14 +118,10 @@ pub record ArePictures (family : Family) (text : List ℕ) : Type 0 where
   pub built : Picture
   pub is : text ≡ pictures_text family left built
 
--- A page of an image and the last verdicts on its classes, within this budget. There is a row for each class, in the
--- order of their numbers. Of its style sheet and its script nothing is said.
-pub record IsPage (I : ImageTables) (verdicts : List Verdict) (at_run_time : List Bool) (budget : ℕ) (text : List ℕ)
-    : Type 0 where
-  pub costs : List (Option Cost)
-  pub are : AreCosts I verdicts budget costs
-  pub dearest : List Cost
-  pub sorted : AreDearestFirst costs dearest
+-- A page of an image and the last verdicts on its classes, by what the accepted ones cost. There is a row for each
+-- class, in the order of their numbers. Of its style sheet and its script nothing is said.
+pub record IsPageOf (I : ImageTables) (verdicts : List Verdict) (at_run_time : List Bool) (costs : List (Option Cost))
+    (dearest : List Cost) (text : List ℕ) : Type 0 where
   pub totals : Totals
   pub has_totals : AreTotals verdicts dearest totals
   pub numbers : List ℕ
@@ -123,3 +133,12 @@ pub record IsPage (I : ImageTables) (verdicts : List Verdict) (at_run_time : Lis
   pub style : List ℕ
   pub script : List ℕ
   pub is : text ≡ page_text style numbers pictures rows script
+
+-- the same within a budget
+pub record IsPage (I : ImageTables) (verdicts : List Verdict) (at_run_time : List Bool) (budget : ℕ) (text : List ℕ)
+    : Type 0 where
+  pub costs : List (Option Cost)
+  pub are : AreCosts I verdicts budget costs
+  pub dearest : List Cost
+  pub sorted : AreDearestFirst costs dearest
+  pub is : IsPageOf I verdicts at_run_time costs dearest text

@@ -2,7 +2,7 @@
 
 ghost use Rattle.std.specs.Prelude.{◌≡◌, length, IfOk, string_bytes};
 ghost use Rattle.explain.specs.steps.Known.{IsOverview};
-ghost use Rattle.report_page.specs.Pages.{page_text, AreNumbers, ArePictures, IsPage};
+ghost use Rattle.report_page.specs.Pages.{page_text, AreNumbers, ArePictures, IsPage, IsPageOf};
 
 use crate::bars::bars_text;
 use crate::counts::{reason_bars, wave_bars};
@@ -99,6 +99,35 @@ fn page_text(
     )
 }
 
+/// The page of a build, by what the accepted classes cost.
+fn page_by(
+    alloc: Global,
+    image: &Image,
+    verdicts: &[Verdict],
+    forced: &Forced,
+    costs: &[Option<Cost>],
+    dearest: &[Cost],
+    overview: &mut Overview,
+) -> Result<String, AllocError>
+    requires known { IsOverview image.now.program verdicts.now overview.old }
+    requires count { length verdicts.now ≡ length image.now.program.classes }
+    ensures { IfOk result
+        (λ text. IsPageOf image.now verdicts.now forced.now costs.now dearest.now (string_bytes text)) }
+{
+    let numbers = numbers_text(alloc, verdicts, totals_of(verdicts, dearest))?;
+    let pictures = pictures_text(alloc, image, verdicts, dearest, overview)?;
+    let count = image.program().given_count();
+    let rows = rows(alloc, image, verdicts, forced, costs, overview, count)?;
+    page_text(
+        alloc,
+        STYLE,
+        numbers.as_str(),
+        pictures.as_str(),
+        rows.as_str(),
+        SCRIPT,
+    )
+}
+
 /// The page of a build with this budget, where these classes are forced to run time.
 ///
 /// # Errors
@@ -113,30 +142,16 @@ pub fn page(
     requires { length verdicts.now ≡ length image.now.program.classes }
     ensures { IfOk result (λ text. IsPage image.now verdicts.now forced.now budget (string_bytes text)) }
 {
-    let program = image.program();
     let costs = costs_of(alloc, image, verdicts, budget)?;
     let dearest = dearest_first(alloc, costs.as_slice())?;
-    let mut overview = Overview::of_program(alloc, program, verdicts)?;
-    let totals = totals_of(verdicts, dearest.as_slice());
-    let numbers = numbers_text(alloc, verdicts, totals)?;
-    let pictures = pictures_text(alloc, image, verdicts, dearest.as_slice(), &overview)?;
-    let count = program.given_count();
-    let rows = rows(
+    let mut overview = Overview::of_program(alloc, image.program(), verdicts)?;
+    page_by(
         alloc,
         image,
         verdicts,
         forced,
         costs.as_slice(),
+        dearest.as_slice(),
         &mut overview,
-        count,
-    )?;
-    let text = page_text(
-        alloc,
-        STYLE,
-        numbers.as_str(),
-        pictures.as_str(),
-        rows.as_str(),
-        SCRIPT,
-    )?;
-    Ok(text)
+    )
 }
