@@ -2,7 +2,6 @@
 use Rattle.std.proofs.Common.{◌≡◌, ◌∙◌, refl, sym, ap, subst, inl, inr}
 use Rattle.std.proofs.Common.{ℕ, ◌+◌, Bool, true, false, cond, List, [], ◌∷◌, Option, Some, None, length, not, ◌&&◌}
 use Rattle.std.proofs.Common.{replicate}
-use Rattle.built_in.specs.declared.class_id.BuiltIn.TheVariants as builtins
 use Rattle.built_in.specs.declared.class_id.ClassId.{ClassId}
 use Rattle.built_in.specs.declared.class_id.ClassId.TheVariants.{Given, BuiltIn, Array}
 use Rattle.built_in.specs.declared.method.BuiltInMethod.{BuiltInMethod}
@@ -40,7 +39,7 @@ use Rattle.machine.specs.declared.call_operation.StaticCall.{StaticCall}
 use Rattle.machine.specs.Initializers.{is_method}
 use Rattle.machine.specs.RowParts.{halts, needing, drops}
 use Rattle.machine.specs.ObjectParts.{slot_in, set_named, on_name, class_of_nameless}
-use Rattle.machine.specs.Objects.{is_of}
+use Rattle.machine.specs.Objects.{is_enum_object}
 use Rattle.machine.specs.Members.{on_enum, name_once, new_enum, replaced, or_slot, enum_part, clone_if_array}
 use Rattle.machine.specs.Members.{member_row}
 use Rattle.machine.specs.Calls.{parameters_at, has_arguments, receiver_under, reaches, reached, enter_static, runs}
@@ -109,7 +108,7 @@ module _ (t : ℕ) (maker : Maker) (P : Tables) (f : Frame) where
     enums v go on =
         on_object t maker Why v _ (λ x.
         asked t maker Why x _ (λ o.
-        either t maker Why (is_of P (BuiltIn builtins.Enum) o) (go x) _ (on x) (fault t maker Why)))
+        either t maker Why (is_enum_object P o) (go x) _ (on x) (fault t maker Why)))
 
     puts : (v : Value) → IsSuited (replaced v f)
     puts v = pushes t maker Why v (with_operands f (rest f.operands))

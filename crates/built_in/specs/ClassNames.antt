@@ -1,5 +1,5 @@
 -- The names of the classes that the machine has of itself, with slashes (JVMS 4.2.1).
-use Rattle.std.specs.Prelude.{ℕ, List, codes}
+use Rattle.std.specs.Prelude.{ℕ, List, [], ◌∷◌, ◌++◌, codes}
 use Rattle.built_in.specs.declared.class_id.BuiltIn.{BuiltIn}
 use Rattle.built_in.specs.declared.class_id.BuiltIn.TheVariants as classes
 
@@ -24,3 +24,19 @@ name_of_built_in classes.LinkageError = codes "java/lang/LinkageError"
 name_of_built_in classes.ExceptionInInitializerError = codes "java/lang/ExceptionInInitializerError"
 name_of_built_in classes.NoClassDefFoundError = codes "java/lang/NoClassDefFoundError"
 name_of_built_in classes.PrintStream = codes "java/io/PrintStream"
+
+-- all of them, by number
+abbrev pub all_built_in : List BuiltIn
+all_built_in = classes.Object ∷ classes.String ∷ classes.System ∷ classes.Enum ∷ classes.Throwable ∷ classes.Exception
+    ∷ classes.RuntimeException ∷ classes.ArithmeticException ∷ classes.NullPointerException
+    ∷ classes.ClassCastException ∷ classes.ArrayStoreException ∷ classes.NegativeArraySizeException
+    ∷ classes.IllegalMonitorStateException ∷ classes.IndexOutOfBoundsException
+    ∷ classes.ArrayIndexOutOfBoundsException ∷ classes.Error ∷ classes.LinkageError
+    ∷ classes.ExceptionInInitializerError ∷ classes.NoClassDefFoundError ∷ classes.PrintStream ∷ []
+
+-- The name of the substitute of a class of this name: of the class that stands for it, where a library is given.
+abbrev pub substitute_of : List ℕ → List ℕ
+substitute_of name = codes "preinit/" ++ name
+
+abbrev pub substitute_name : BuiltIn → List ℕ
+substitute_name class = substitute_of (name_of_built_in class)

@@ -2,8 +2,8 @@
 
 ghost use Rattle.std.specs.Prelude.{◌≡◌, ◌≢◌, MatchOption};
 ghost use Rattle.built_in.specs.declared.class_id.BuiltIn.{BuiltIn as Class};
-ghost use Rattle.built_in.specs.ClassNames.{name_of_built_in};
-ghost use Rattle.built_in.specs.Subclasses.{superclasses_of_built_in, is_built_in_below};
+ghost use Rattle.built_in.specs.ClassNames.{name_of_built_in, all_built_in, substitute_name};
+ghost use Rattle.built_in.specs.Subclasses.{superclasses_of_built_in, is_built_in_below, number_of_built_in};
 
 /// A class: a given one, one that is built in, or an array class.
 #[derive(Clone, Copy, Debug)]
@@ -157,6 +157,71 @@ impl BuiltIn {
         }
     }
 
+    /// All of them, by number.
+    pub fn all() -> &'static [BuiltIn]
+        ensures { result.now ≡ all_built_in }
+    {
+        &ALL
+    }
+
+    /// Its number, below 20.
+    pub fn number(self) -> usize
+        ensures { result ≡ number_of_built_in self }
+    {
+        match self {
+            BuiltIn::Object => 0,
+            BuiltIn::String => 1,
+            BuiltIn::System => 2,
+            BuiltIn::Enum => 3,
+            BuiltIn::Throwable => 4,
+            BuiltIn::Exception => 5,
+            BuiltIn::RuntimeException => 6,
+            BuiltIn::ArithmeticException => 7,
+            BuiltIn::NullPointerException => 8,
+            BuiltIn::ClassCastException => 9,
+            BuiltIn::ArrayStoreException => 10,
+            BuiltIn::NegativeArraySizeException => 11,
+            BuiltIn::IllegalMonitorStateException => 12,
+            BuiltIn::IndexOutOfBoundsException => 13,
+            BuiltIn::ArrayIndexOutOfBoundsException => 14,
+            BuiltIn::Error => 15,
+            BuiltIn::LinkageError => 16,
+            BuiltIn::ExceptionInInitializerError => 17,
+            BuiltIn::NoClassDefFoundError => 18,
+            BuiltIn::PrintStream => 19,
+        }
+    }
+
+    /// The name of its substitute: of the class that stands for it, where a library is given.
+    pub fn substitute_name(self) -> &'static str
+        ensures { result.now ≡ substitute_name self }
+    {
+        match self {
+            BuiltIn::Object => "preinit/java/lang/Object",
+            BuiltIn::String => "preinit/java/lang/String",
+            BuiltIn::System => "preinit/java/lang/System",
+            BuiltIn::Enum => "preinit/java/lang/Enum",
+            BuiltIn::Throwable => "preinit/java/lang/Throwable",
+            BuiltIn::Exception => "preinit/java/lang/Exception",
+            BuiltIn::RuntimeException => "preinit/java/lang/RuntimeException",
+            BuiltIn::ArithmeticException => "preinit/java/lang/ArithmeticException",
+            BuiltIn::NullPointerException => "preinit/java/lang/NullPointerException",
+            BuiltIn::ClassCastException => "preinit/java/lang/ClassCastException",
+            BuiltIn::ArrayStoreException => "preinit/java/lang/ArrayStoreException",
+            BuiltIn::NegativeArraySizeException => "preinit/java/lang/NegativeArraySizeException",
+            BuiltIn::IllegalMonitorStateException =>
+                "preinit/java/lang/IllegalMonitorStateException",
+            BuiltIn::IndexOutOfBoundsException => "preinit/java/lang/IndexOutOfBoundsException",
+            BuiltIn::ArrayIndexOutOfBoundsException =>
+                "preinit/java/lang/ArrayIndexOutOfBoundsException",
+            BuiltIn::Error => "preinit/java/lang/Error",
+            BuiltIn::LinkageError => "preinit/java/lang/LinkageError",
+            BuiltIn::ExceptionInInitializerError => "preinit/java/lang/ExceptionInInitializerError",
+            BuiltIn::NoClassDefFoundError => "preinit/java/lang/NoClassDefFoundError",
+            BuiltIn::PrintStream => "preinit/java/io/PrintStream",
+        }
+    }
+
     /// Whether it is another class, or below it.
     pub fn is_below(self, other: BuiltIn) -> bool
         ensures { result ≡ is_built_in_below self other }
@@ -165,7 +230,7 @@ impl BuiltIn {
     }
 
     /// Its superclasses, the nearest first.
-    fn superclasses(self) -> &'static [BuiltIn]
+    pub fn superclasses(self) -> &'static [BuiltIn]
         ensures { result.now ≡ superclasses_of_built_in self }
     {
         match self {

@@ -16,6 +16,7 @@ use Rattle.loading.specs.declared.given.Superclass.{Superclass}
 use Rattle.loading.specs.declared.given.Superclass.TheVariants as super
 use Rattle.loading.specs.Families.{Family, IsFamily, AreParentsWithin, IsAncestor, parent, further, parents_in}
 use Rattle.loading.specs.Families.{interfaces_in, superclasses_in, superclass_in, given_superclass, is_interface_in}
+use Rattle.loading.specs.Families.{substitute_in}
 use Rattle.hierarchy.specs.declared.member.DeclaredMember.{DeclaredMember}
 use Rattle.hierarchy.specs.declared.member.Field.{Field}
 use Rattle.hierarchy.specs.declared.member.Field.TheVariants as field
@@ -26,7 +27,7 @@ use Rattle.hierarchy.specs.Search.{Search, nothing, here, above, Superinterfaces
 use Rattle.hierarchy.specs.MemberLookup.{UpClasses, field_in, method_in, interface_method_in, IsTheDefault}
 use Rattle.hierarchy.specs.MemberLookup.{IsDefault, IsMaximallySpecific, IsCandidate, is_abstract, flags_in}
 use Rattle.hierarchy.specs.MemberLookup.{HasNoDefault}
-use Rattle.hierarchy.specs.Resolution.{ResolvesField, ResolvesMethod, AmongInterfaces}
+use Rattle.hierarchy.specs.Resolution.{ResolvesField, ResolvesMethod, AmongInterfaces, IsNoArrayMember}
 use Rattle.hierarchy.specs.Subclasses.{is_above}
 use Rattle.hierarchy.proofs.InitializationLemmas.{ancestor_within}
 use Rattle.hierarchy.proofs.SubclassesLemmas.{above_tells}
@@ -175,8 +176,20 @@ module _ (family : Family) (fits : IsFamily family) (within : AreParentsWithin f
       by b is = (None, ResolvesField.built_in (λ same. cc))
   field_of key (class.Given c) = by (search_from (field_in family key) c)
     where
+      -- of the substitute of System `out`
+      beyond : Search family (field_in family key) (c ∷ []) None → (o : Option ℕ)
+          → substitute_in family builtins.System ≡ o → Decided (key ≡ out_key)
+          → (r : Option Field) × ResolvesField family key (class.Given c) r
+      beyond search o at (inr other) = (None, ResolvesField.missing search (λ system out. other out))
+      beyond search None at (inl out) =
+          (None, ResolvesField.missing search (λ system same. let clash = sym at ∙ system in cc))
+      beyond search (Some d) at (inl out) = elim (decided_same d c) [
+        | inl same ↦ (Some field.Out, ResolvesField.substitute_out search (at ∙ ap Some same) out)
+        | inr other ↦ (None, ResolvesField.missing search (λ system same. other (let e = sym at ∙ system in cc)))
+      ]
+
       by : Found (field_in family key) (c ∷ []) → (r : Option Field) × ResolvesField family key (class.Given c) r
-      by (None, search) = (None, ResolvesField.missing search)
+      by (None, search) = beyond search (substitute_in family builtins.System) refl (same_key key out_key)
       by (Some m, search) = (Some (field.Given m.class m.index), ResolvesField.found search)
 
   -- ---- methods along superclasses
@@ -310,14 +323,8 @@ module _ (family : Family) (fits : IsFamily family) (within : AreParentsWithin f
       by none_of (None, search) = (None, AmongInterfaces.none none_of search)
       by none_of (Some m, search) = (Some (method.Given m.class m.index), AmongInterfaces.any none_of search)
 
-  pub method_of : (key : NameAndType) (x : ClassId) → (r : Option Method) × ResolvesMethod family key x r
-  method_of key (class.Array a) = elim (array_member key) [
-    | inl (m, has, same) ↦ (Some (method.BuiltIn m), ResolvesMethod.array has same)
-    | inr none_of ↦ (None, ResolvesMethod.no_array none_of)
-  ]
-  method_of key (class.BuiltIn b) =
-      let (r, found) = up_built_in (method_in family key) key b in (r, ResolvesMethod.built_in found)
-  method_of key (class.Given c) = by (is_interface_in family c) refl
+  given_method : (key : NameAndType) (c : ℕ) → (r : Option Method) × ResolvesMethod family key (class.Given c) r
+  given_method key c = by (is_interface_in family c) refl
     where
       up : is_interface_in family c ≡ false → FoundUp (method_in family key) key (super.Given c)
           → (r : Option Method) × ResolvesMethod family key (class.Given c) r
@@ -332,3 +339,27 @@ module _ (family : Family) (fits : IsFamily family) (within : AreParentsWithin f
       by : (b : Bool) → is_interface_in family c ≡ b → (r : Option Method) × ResolvesMethod family key (class.Given c) r
       by false is = up is (up_from (method_in family key) key c)
       by true is = own is (method_in family key c) refl
+
+  pub method_of : (key : NameAndType) (x : ClassId) → (r : Option Method) × ResolvesMethod family key x r
+  method_of key (class.Given c) = given_method key c
+  method_of key (class.BuiltIn b) = by (up_built_in (method_in family key) key b)
+    where
+      beyond : UpClasses family (method_in family key) key (super.BuiltIn b) None → (o : Option ℕ)
+          → substitute_in family b ≡ o → (r : Option Method) × ResolvesMethod family key (class.BuiltIn b) r
+      beyond lacks None at = (None, ResolvesMethod.no_built_in lacks at)
+      beyond lacks (Some d) at =
+          let (r, found) = given_method key d in (r, ResolvesMethod.beyond_built_in lacks at found)
+
+      by : FoundUp (method_in family key) key (super.BuiltIn b)
+          → (r : Option Method) × ResolvesMethod family key (class.BuiltIn b) r
+      by (Some m, found) = (Some m, ResolvesMethod.built_in found)
+      by (None, lacks) = beyond lacks (substitute_in family b) refl
+  method_of key (class.Array a) = elim (array_member key) [
+    | inl (m, has, same) ↦ (Some (method.BuiltIn m), ResolvesMethod.array has same)
+    | inr none_of ↦ beyond none_of (substitute_in family builtins.Object) refl
+  ]
+    where
+      beyond : IsNoArrayMember key → (o : Option ℕ) → substitute_in family builtins.Object ≡ o
+          → (r : Option Method) × ResolvesMethod family key (class.Array a) r
+      beyond lacks None at = (None, ResolvesMethod.no_array lacks at)
+      beyond lacks (Some d) at = let (r, found) = given_method key d in (r, ResolvesMethod.beyond_array lacks at found)

@@ -1,4 +1,5 @@
 -- Each family has a program.
+use Rattle.std.specs.Option.{option_map}
 use Rattle.std.proofs.Common.{◌≡◌, ◌⊎◌, inl, inr, ℕ, zero, suc, ◌+◌, ◌<◌, Bool, true, false, List, [], ◌∷◌}
 use Rattle.std.proofs.Common.{◌++◌, length, map, Option, Some, None, Ok, Err, slice_get, slice_index_or, unwrap_or}
 use Rattle.std.proofs.Common.{refl, sym, ap, subst, ◌∙◌, arith}
@@ -21,7 +22,7 @@ use Rattle.classfile.proofs.ScanLemmas.{method_decides}
 use Rattle.classfile.specs.reading.Descriptors.{is_method}
 use Rattle.bytecode.specs.declared.placed.Placed.{Placed}
 use Rattle.bytecode.specs.Body.{IsBody}
-use Rattle.loading.specs.ClassIds.{StandsFor}
+use Rattle.loading.specs.ClassIds.{StandsFor, Denotes, meant_in}
 use Rattle.loading.specs.Families.{Family, IsFamily, AreParentsWithin}
 use Rattle.loading.specs.Names.{class_name_at, text_at}
 use Rattle.loading.specs.declared.given.GivenClass.{GivenClass}
@@ -231,32 +232,44 @@ HasBodies f = (m : Member) → Contains f.methods m → (attribute : CodeAttribu
 
 -- ---- what references stand for
 
+abbrev denoted : Family → ClassFile → List ℕ → Option ClassId
+denoted family f name = option_map (meant_in family f) (class_of family name)
+
+denotes : (family : Family) (f : ClassFile) (name : List ℕ) → Denotes family f name (denoted family f name)
+denotes family f name = by (class_of family name) (stands family name)
+  where
+    by : (o : Option ClassId) → StandsFor family name o → Denotes family f name (option_map (meant_in family f) o)
+    by None none = none
+    by (Some x) named = (x, named, refl)
+
 module _ (family : Family) (fits : IsFamily family) (within : AreParentsWithin family) where
-  finds_field : (name : List ℕ) (key : NameAndType) → (r : Result Field Unresolved) × FindsField family name key r
-  finds_field name key = by (class_of family name) (stands family name)
+  finds_field : (f : ClassFile) (name : List ℕ) (key : NameAndType)
+      → (r : Result Field Unresolved) × FindsField family f name key r
+  finds_field f name key = by (denoted family f name) (denotes family f name)
     where
-      found : (x : ClassId) → StandsFor family name (Some x)
+      found : (x : ClassId) → Denotes family f name (Some x)
           → (m : Option Field) × ResolvesField family key x m
-          → (r : Result Field Unresolved) × FindsField family name key r
+          → (r : Result Field Unresolved) × FindsField family f name key r
       found x named (None, lacks) = (Err Missing, FindsField.missing named lacks)
       found x named (Some m, is) = (Ok m, FindsField.found named is)
 
-      by : (x : Option ClassId) → StandsFor family name x → (r : Result Field Unresolved) × FindsField family name key r
+      by : (x : Option ClassId) → Denotes family f name x
+          → (r : Result Field Unresolved) × FindsField family f name key r
       by None unknown = (Err Missing, FindsField.unknown unknown)
       by (Some x) named = found x named (field_of family fits within key x)
 
-  finds_method : {owner : _} (name : List ℕ) (key : NameAndType)
-      → (r : Result Method Unresolved) × FindsMethod family owner name key r
-  finds_method {owner = owner} name key = by (class_of family name) (stands family name)
+  finds_method : {owner : _} (f : ClassFile) (name : List ℕ) (key : NameAndType)
+      → (r : Result Method Unresolved) × FindsMethod family f owner name key r
+  finds_method {owner = owner} f name key = by (denoted family f name) (denotes family f name)
     where
-      found : (x : ClassId) → StandsFor family name (Some x) → is_interface_id family x ≡ wants_interface owner
+      found : (x : ClassId) → Denotes family f name (Some x) → is_interface_id family x ≡ wants_interface owner
           → (m : Option Method) × ResolvesMethod family key x m
-          → (r : Result Method Unresolved) × FindsMethod family owner name key r
+          → (r : Result Method Unresolved) × FindsMethod family f owner name key r
       found x named fit (None, lacks) = (Err Missing, FindsMethod.missing named fit lacks)
       found x named fit (Some m, is) = (Ok m, FindsMethod.found named fit is)
 
-      by_kind : (x : ClassId) → StandsFor family name (Some x) → (a b : Bool) → is_interface_id family x ≡ a
-          → wants_interface owner ≡ b → (r : Result Method Unresolved) × FindsMethod family owner name key r
+      by_kind : (x : ClassId) → Denotes family f name (Some x) → (a b : Bool) → is_interface_id family x ≡ a
+          → wants_interface owner ≡ b → (r : Result Method Unresolved) × FindsMethod family f owner name key r
       by_kind x named true true is want = found x named (is ∙ sym want) (method_of family fits within key x)
       by_kind x named false false is want = found x named (is ∙ sym want) (method_of family fits within key x)
       by_kind x named true false is want =
@@ -264,8 +277,8 @@ module _ (family : Family) (fits : IsFamily family) (within : AreParentsWithin f
       by_kind x named false true is want =
           (Err Incompatible, FindsMethod.incompatible named (λ same. let clash = sym is ∙ same ∙ want in cc))
 
-      by : (x : Option ClassId) → StandsFor family name x
-          → (r : Result Method Unresolved) × FindsMethod family owner name key r
+      by : (x : Option ClassId) → Denotes family f name x
+          → (r : Result Method Unresolved) × FindsMethod family f owner name key r
       by None unknown = (Err Missing, FindsMethod.unknown unknown)
       by (Some x) named = by_kind x named (is_interface_id family x) (wants_interface owner) refl refl
 
@@ -281,11 +294,11 @@ module _ (family : Family) (fits : IsFamily family) (within : AreParentsWithin f
         → (reference : MethodReference) × IsMethodReference family f index c n reference
     reference_of index c n (target, resolves) = (
       record {
-        class = class_of family (class_name_at f c);
+        class = denoted family f (class_name_at f c);
         descriptor = descriptor_index_at f n;
         target = target;
       },
-      record { class = stands family (class_name_at f c); descriptor = refl; target = resolves },
+      record { class = denotes family f (class_name_at f c); descriptor = refl; target = resolves },
     )
 
     resolved : (index : ℕ) (constant : Constant) → slice_get f.constants index ≡ Some constant
@@ -315,12 +328,12 @@ module _ (family : Family) (fits : IsFamily family) (within : AreParentsWithin f
         let there = slice_get-get_or strings n (text_at f utf8) low ∙ ap (λ (t : List ℕ). Some t) is in
         (runtime.String n, IsRuntimeConstant.string there)
     constant_for index (constants.Class name) at = (
-      runtime.Class (class_of family (class_name_at f index)),
-      IsRuntimeConstant.class (stands family
+      runtime.Class (denoted family f (class_name_at f index)),
+      IsRuntimeConstant.class (denotes family f
           (class_name_at f index)),
     )
     constant_for index (constants.Fieldref c n) at =
-        let (r, finds) = finds_field (class_name_at f c) (key_at f n) in (
+        let (r, finds) = finds_field f (class_name_at f c) (key_at f n) in (
           _,
           IsRuntimeConstant.field r
               (subst (λ (o : Option Constant). FieldOfConstant family f o r) (sym at) finds),
@@ -330,13 +343,13 @@ module _ (family : Family) (fits : IsFamily family) (within : AreParentsWithin f
         (runtime.Method reference, IsRuntimeConstant.method is)
       where
         finds : (r : Result Method Unresolved) × MethodOfConstant family f (Some (constants.Methodref c n)) r
-        finds = finds_method (class_name_at f c) (key_at f n)
+        finds = finds_method f (class_name_at f c) (key_at f n)
     constant_for index (constants.InterfaceMethodref c n) at =
         let (reference, is) = reference_of index c n (resolved index (constants.InterfaceMethodref c n) at finds) in
         (runtime.InterfaceMethod reference, IsRuntimeConstant.interface_method is)
       where
         finds : (r : Result Method Unresolved) × MethodOfConstant family f (Some (constants.InterfaceMethodref c n)) r
-        finds = finds_method (class_name_at f c) (key_at f n)
+        finds = finds_method f (class_name_at f c) (key_at f n)
 
     -- what stands for the constant of an index, whatever that is
     abbrev StandsAt : ℕ → RuntimeConstant → Type 0
@@ -366,8 +379,8 @@ module _ (family : Family) (fits : IsFamily family) (within : AreParentsWithin f
     caught_for : (index : ℕ) → (caught : Catches) × IsCaught family f index caught
     caught_for zero = (catches.Anything, IsCaught.anything)
     caught_for (suc n) = (
-      catches.Class (class_of family (class_name_at f (suc n))),
-      IsCaught.class (λ is. cc) (stands family
+      catches.Class (denoted family f (class_name_at f (suc n))),
+      IsCaught.class (λ is. cc) (denotes family f
           (class_name_at f (suc n))),
     )
 

@@ -13,6 +13,9 @@ use Rattle.loading.specs.Families.{AreParentsWithin, Family, IsFamilyOf, interfa
 use Rattle.loading.specs.Families.{given_superclass, superclass_if, superclass_name}
 use Rattle.loading.specs.Files.{Links, no_superclass}
 use Rattle.loading.specs.Names.{interfaces_of, name_of, superclass_of}
+use Rattle.loading.specs.Library.{extended_name, superclass_meant}
+use Rattle.loading.specs.Families.{files_in}
+use Rattle.std.specs.Prelude.{option_map}
 use Rattle.initializer_analysis.proofs.ReachesLemmas.{first_or_rest, in_first, in_none, in_rest}
 use Rattle.options.proofs.MatchedLemmas.{named_within}
 
@@ -55,9 +58,11 @@ module _ (files : List ClassFile) (family : Family) (of : IsFamilyOf files famil
     superclass_within (super.BuiltIn b) d is there = absurd (in_none d there)
     superclass_within (super.Given e) d is there = by (first_or_rest d e [] there) (superclass_of given.file) refl
       where
-        names : superclass_of given.file ≡ superclass_name family given.superclass
-        names = All-contains (λ (x : GivenClass). superclass_of x.file ≡ superclass_name family x.superclass) family
-            given of.fits.superclass_names among
+        names : superclass_meant (files_in family) given.file ≡ superclass_name family given.superclass
+        names =
+            All-contains
+            (λ (x : GivenClass). superclass_meant (files_in family) x.file ≡ superclass_name family x.superclass)
+            family given of.fits.superclass_names among
 
         in_files : Contains files given.file
         in_files = (of.members given.file).1 (in_map (λ (x : GivenClass). x.file) family given among)
@@ -72,8 +77,9 @@ module _ (files : List ClassFile) (family : Family) (of : IsFamilyOf files famil
               no_superclass told,
             ))
         by (inl same) (Some name) told =
-            named_within family d name (ap (name_in family) same
-            ∙ sym (ap (superclass_name family) is) ∙ sym names ∙ told)
+            named_within family d (extended_name (files_in family) given.file name) (ap (name_in family) same
+            ∙ sym (ap (superclass_name family) is) ∙ sym names
+            ∙ ap (option_map (extended_name (files_in family) given.file)) told)
 
     parent_within : (d : ℕ) → Contains (given.interfaces ++ given_superclass (Some given.superclass)) d
         → d < length family

@@ -81,7 +81,7 @@ fn fixed_slot(program: &Program, region: &Region, number: u64, slot: usize) -> O
         (fixed_at (program_of program.now) Named (pool_by region.now.objects) number) }
 {
     match region.objects.object(number) {
-        Some(object) if program.is_below(object.class.id(), ClassId::BuiltIn(BuiltIn::Enum)) => {
+        Some(object) if program.has_slots_of(object.class.id(), BuiltIn::Enum) => {
             match (object.slots.get(0), object.slots.get(1)) {
                 (Some(Value::Null), _) => None,
                 (Some(name), Some(ordinal)) => Some(match slot {

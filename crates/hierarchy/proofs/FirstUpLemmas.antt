@@ -1,4 +1,7 @@
 -- What is found along superclasses, as a function.
+use Rattle.std.specs.Option.{MatchOption}
+use Rattle.hierarchy.specs.Resolution.{IsNoArrayMember}
+use Rattle.hierarchy.specs.steps.Sought.{IsArrayMethod}
 use Rattle.std.proofs.Common.{◌≡◌, ◌≢◌, ℕ, Bool, true, false, cond, List, [], ◌∷◌, Option, Some, None, option_map}
 use Rattle.std.proofs.Common.{is_some, refl, sym, ap, ◌∙◌}
 use Rattle.std.specs.List.{All, AllByRecursion, find}
@@ -69,6 +72,12 @@ array_member_with key m has is = found_with key array_members m (is_first_of_arr
 pub no_array_member_with : (key : NameAndType) → ((m : BuiltInMethod) → HasArrayMember m → key_of_member m ≢ key)
     → None ≡ member_with key array_members
 no_array_member_with key none = none_with HasArrayMember key array_members array_listed none
+
+-- what arrays have by a key
+pub array_value : (key : NameAndType) (r : Option Method)
+    → MatchOption r (IsNoArrayMember key) (λ m. IsArrayMethod key m) → r ≡ member_with key array_members
+array_value key None none = no_array_member_with key none
+array_value key (Some m) (x, is, has, same) = ap Some is ∙ array_member_with key x has same
 
 -- ---- along superclasses
 

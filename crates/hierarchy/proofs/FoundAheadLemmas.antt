@@ -1,16 +1,11 @@
 -- What was found for references before they are resolved.
-use Rattle.std.proofs.Common.{◌≡◌, ℕ, Bool, true, false, cond, List, [], ◌∷◌, Option, Some, None, sym, ap, ◌∙◌, subst}
+use Rattle.std.proofs.Common.{◌≡◌, ℕ, Bool, true, false, cond, List, Option, Some, None, sym, ap, ◌∙◌, subst}
 use Rattle.std.proofs.Common.{refl}
 use Rattle.built_in.specs.Keys.{NameAndType}
-use Rattle.built_in.specs.declared.class_id.ClassId.TheVariants as class_ids
-use Rattle.loading.specs.Families.{Family}
-use Rattle.hierarchy.specs.MemberLookup.{field_in}
-use Rattle.hierarchy.specs.Resolution.{ResolvesField}
-use Rattle.hierarchy.specs.Search.{Search}
 use Rattle.hierarchy.specs.Hierarchies.{NumberedFamily}
 use Rattle.hierarchy.specs.declared.asked.MemberKind.{MemberKind}
 use Rattle.hierarchy.specs.declared.asked.MemberKind.TheVariants as asked
-use Rattle.hierarchy.specs.steps.FoundAhead.{AreAhead, found_in, given_field}
+use Rattle.hierarchy.specs.steps.FoundAhead.{AreAhead, found_in}
 use Rattle.hierarchy.specs.steps.MemberKeys.{AreNumbers, same_member}
 use Rattle.hierarchy.specs.declared.found_ahead.FoundAhead.{FoundAhead}
 use Rattle.hierarchy.specs.declared.member.DeclaredMember.{DeclaredMember}
@@ -46,12 +41,6 @@ module _ (texts : List (List ℕ)) (Resolves : NameAndType → ℕ → Option De
       by false e =
           kept c k m name (sym (updates c k ∙ ap (λ (b : Bool). cond b (Some member) (found_in old c k)) e) ∙ at)
           numbers
-
-pub resolved_field : (family : Family) (name : NameAndType) (c : ℕ) (found : Option DeclaredMember)
-    → Search family (field_in family name) (c ∷ []) found
-    → ResolvesField family name (class_ids.Given c) (given_field found)
-resolved_field family name c None search = ResolvesField.missing search
-resolved_field family name c (Some m) search = ResolvesField.found search
 
 -- nothing is found yet
 pub nothing_ahead : (kind : MemberKind) (h : NumberedFamily) (ahead : FoundAhead)

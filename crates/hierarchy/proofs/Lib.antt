@@ -49,3 +49,7 @@ pub mod TheDefaultLemmas
 pub mod SelectionLemmas
 pub mod SelectableLemmas
 pub mod SpecialsLemmas
+pub mod SystemOutLemmas
+pub mod StepsUpLemmas
+pub mod BeyondLemmas
+pub mod BeyondGraphLemmas

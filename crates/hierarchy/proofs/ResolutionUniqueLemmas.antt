@@ -4,6 +4,7 @@ use Rattle.std.proofs.lemmas.Option.{same_Some}
 use Rattle.classfile.specs.ClassFile.{ClassFile}
 use Rattle.classfile.specs.declared.member.Member.{Member}
 use Rattle.built_in.specs.declared.class_id.ClassId.{ClassId}
+use Rattle.built_in.specs.declared.class_id.ClassId.TheVariants as class
 use Rattle.built_in.specs.declared.method.BuiltInMethod.{BuiltInMethod}
 use Rattle.built_in.specs.Keys.{NameAndType}
 use Rattle.built_in.specs.Methods.{HasArrayMember, key_of_member}
@@ -31,9 +32,14 @@ same_field (ResolvesField.found {d = d} {k = k} g) (ResolvesField.found {d = e} 
     let m : DeclaredMember = record { class = d; index = k } in
     let n : DeclaredMember = record { class = e; index = l } in
     ap (λ (z : DeclaredMember). Some (field_at z)) (same_Some m n (same_search g h))
-same_field (ResolvesField.found g) (ResolvesField.missing h) = let same = same_search g h in absurd cc
-same_field (ResolvesField.missing g) (ResolvesField.found h) = let same = same_search g h in absurd cc
-same_field (ResolvesField.missing g) (ResolvesField.missing h) = refl
+same_field (ResolvesField.found g) (ResolvesField.missing h bar) = let same = same_search g h in absurd cc
+same_field (ResolvesField.missing g bar) (ResolvesField.found h) = let same = same_search g h in absurd cc
+same_field (ResolvesField.missing g bar) (ResolvesField.missing h other) = refl
+same_field (ResolvesField.missing g bar) (ResolvesField.substitute_out h is out) = absurd (bar is out)
+same_field (ResolvesField.substitute_out g is out) (ResolvesField.missing h bar) = absurd (bar is out)
+same_field (ResolvesField.substitute_out g is out) (ResolvesField.substitute_out h at same) = refl
+same_field (ResolvesField.found g) (ResolvesField.substitute_out h is out) = let same = same_search g h in absurd cc
+same_field (ResolvesField.substitute_out g is out) (ResolvesField.found h) = let same = same_search g h in absurd cc
 same_field (ResolvesField.out e) (ResolvesField.out f) = refl
 same_field (ResolvesField.out e) (ResolvesField.no_out f) = absurd (f e)
 same_field (ResolvesField.out e) (ResolvesField.built_in f) = absurd (f refl)
@@ -119,10 +125,27 @@ same_method (ResolvesMethod.above_interface e g k) (ResolvesMethod.above_class f
 same_method (ResolvesMethod.above_interface e g k) (ResolvesMethod.of_interface f h) = absurd cc
 same_method (ResolvesMethod.above_interface e g k) (ResolvesMethod.above_interface f h l) = same_among k l
 same_method (ResolvesMethod.built_in g) (ResolvesMethod.built_in h) = same_up g h
+same_method (ResolvesMethod.built_in g) (ResolvesMethod.no_built_in h e) = same_up g h
+same_method (ResolvesMethod.built_in g) (ResolvesMethod.beyond_built_in h e k) = let same = same_up g h in absurd cc
+same_method (ResolvesMethod.no_built_in g e) (ResolvesMethod.built_in h) = same_up g h
+same_method (ResolvesMethod.no_built_in g e) (ResolvesMethod.no_built_in h f) = refl
+same_method (ResolvesMethod.no_built_in g e) (ResolvesMethod.beyond_built_in h f k) = absurd cc
+same_method (ResolvesMethod.beyond_built_in g e k) (ResolvesMethod.built_in h) = let same = same_up g h in absurd cc
+same_method (ResolvesMethod.beyond_built_in g e k) (ResolvesMethod.no_built_in h f) = absurd cc
+same_method {family} {key} (ResolvesMethod.beyond_built_in {d = c} {r = r} g e k)
+    (ResolvesMethod.beyond_built_in {d = d} h f l) =
+    same_method (subst (λ (z : ℕ). ResolvesMethod family key (class.Given z) r) (same_Some c d (sym e ∙ f)) k) l
 same_method {key = key} (ResolvesMethod.array g e) (ResolvesMethod.array h f) = array_methods key g h e f
-same_method (ResolvesMethod.array {m = m} g e) (ResolvesMethod.no_array none) = absurd (none m g e)
-same_method (ResolvesMethod.no_array none) (ResolvesMethod.array {m = m} g e) = absurd (none m g e)
-same_method (ResolvesMethod.no_array none) (ResolvesMethod.no_array other) = refl
+same_method (ResolvesMethod.array {m = m} g e) (ResolvesMethod.no_array none f) = absurd (none m g e)
+same_method (ResolvesMethod.array {m = m} g e) (ResolvesMethod.beyond_array none f k) = absurd (none m g e)
+same_method (ResolvesMethod.no_array none f) (ResolvesMethod.array {m = m} g e) = absurd (none m g e)
+same_method (ResolvesMethod.no_array none e) (ResolvesMethod.no_array other f) = refl
+same_method (ResolvesMethod.no_array none e) (ResolvesMethod.beyond_array other f k) = absurd cc
+same_method (ResolvesMethod.beyond_array none f k) (ResolvesMethod.array {m = m} g e) = absurd (none m g e)
+same_method (ResolvesMethod.beyond_array none e k) (ResolvesMethod.no_array other f) = absurd cc
+same_method {family} {key} (ResolvesMethod.beyond_array {d = c} {r = r} none e k)
+    (ResolvesMethod.beyond_array {d = d} other f l) =
+    same_method (subst (λ (z : ℕ). ResolvesMethod family key (class.Given z) r) (same_Some c d (sym e ∙ f)) k) l
 
 -- ---- selection
 
@@ -138,11 +161,23 @@ same_by_key (SelectsByKey.the_default {i = i} {k = k} g d) (SelectsByKey.none h 
 same_by_key (SelectsByKey.none g none) (SelectsByKey.of_class h) = let same = same_up g h in absurd cc
 same_by_key (SelectsByKey.none g none) (SelectsByKey.the_default {i = i} {k = k} h d) = absurd (none i k d)
 same_by_key (SelectsByKey.none g none) (SelectsByKey.none h other) = refl
-same_by_key (SelectsByKey.built_in g) (SelectsByKey.built_in h) = same_up g h
+same_by_key (SelectsByKey.built_in e g) (SelectsByKey.built_in f h) = same_up g h
+same_by_key (SelectsByKey.built_in e g) (SelectsByKey.of_substitute f h) = absurd cc
+same_by_key (SelectsByKey.of_substitute e g) (SelectsByKey.built_in f h) = absurd cc
+same_by_key {family} {key} (SelectsByKey.of_substitute {d = c} {r = r} e g)
+    (SelectsByKey.of_substitute {d = d} f h) =
+    same_by_key (subst (λ (z : ℕ). SelectsByKey family key (class.Given z) r) (same_Some c d (sym e ∙ f)) g) h
 same_by_key {key = key} (SelectsByKey.array g e) (SelectsByKey.array h f) = array_methods key g h e f
-same_by_key (SelectsByKey.array {m = m} g e) (SelectsByKey.no_array none) = absurd (none m g e)
-same_by_key (SelectsByKey.no_array none) (SelectsByKey.array {m = m} g e) = absurd (none m g e)
-same_by_key (SelectsByKey.no_array none) (SelectsByKey.no_array other) = refl
+same_by_key (SelectsByKey.array {m = m} g e) (SelectsByKey.no_array none f) = absurd (none m g e)
+same_by_key (SelectsByKey.array {m = m} g e) (SelectsByKey.beyond_array none f k) = absurd (none m g e)
+same_by_key (SelectsByKey.no_array none f) (SelectsByKey.array {m = m} g e) = absurd (none m g e)
+same_by_key (SelectsByKey.no_array none e) (SelectsByKey.no_array other f) = refl
+same_by_key (SelectsByKey.no_array none e) (SelectsByKey.beyond_array other f k) = absurd cc
+same_by_key (SelectsByKey.beyond_array none f k) (SelectsByKey.array {m = m} g e) = absurd (none m g e)
+same_by_key (SelectsByKey.beyond_array none e k) (SelectsByKey.no_array other f) = absurd cc
+same_by_key {family} {key} (SelectsByKey.beyond_array {d = c} {r = r} none e k)
+    (SelectsByKey.beyond_array {d = d} other f l) =
+    same_by_key (subst (λ (z : ℕ). SelectsByKey family key (class.Given z) r) (same_Some c d (sym e ∙ f)) k) l
 
 -- where there is no method, none is private
 pub no_private : (family : Family) (c k : ℕ) → key_in family c k ≡ None → is_private (flags_in family c k) ≡ true → ⊥

@@ -21,7 +21,7 @@ use Rattle.hierarchy.specs.MemberLookup.{is_named, keep_if, key_of, key_if, meth
 use Rattle.hierarchy.specs.MemberLookup.{method_of}
 use Rattle.hierarchy.specs.Resolution.{instance_method_in}
 use Rattle.hierarchy.specs.Selection.{method_at, declared_by, first_declared, member_at_end, first_up}
-use Rattle.hierarchy.specs.Selection.{the_default, found_from, found_if, selected}
+use Rattle.hierarchy.specs.Selection.{the_default, found_from, found_for_if, selected}
 use Rattle.hierarchy.specs.Subtypes.{end_of_chain}
 use Rattle.hierarchy.specs.Selectable.{IsSelectable}
 use Rattle.hierarchy.specs.steps.Reaches.{class_noted, classes_noted}
@@ -290,15 +290,15 @@ pub selects_given : (family : Family) (c j : ℕ) (name : NameAndType) → is_pr
 unfolding selected
 selects_given family c j name other is e =
     ap (λ (b : Bool). cond b (Some (method.Given c j))
-    (found_if is_inherited family (class.Given e) (key_in family c j)))
-    other ∙ ap (found_if is_inherited family (class.Given e)) is
+    (found_for_if family (class.Given e) (key_in family c j)))
+    other ∙ ap (found_for_if family (class.Given e)) is
 
 pub selects_itself : (family : Family) (c j : ℕ) → is_private (flags_in family c j) ≡ true → (e : ℕ)
     → selected family (class.Given e) (method.Given c j) ≡ Some (method.Given c j)
 unfolding selected
 selects_itself family c j private e =
     ap (λ (b : Bool). cond b (Some (method.Given c j))
-    (found_if is_inherited family (class.Given e) (key_in family c j)))
+    (found_for_if family (class.Given e) (key_in family c j)))
     private
 
 selects_nothing : (family : Family) (c j : ℕ) → is_private (flags_in family c j) ≡ false → key_in family c j ≡ None
@@ -306,8 +306,8 @@ selects_nothing : (family : Family) (c j : ℕ) → is_private (flags_in family 
 unfolding selected
 selects_nothing family c j other none e =
     ap (λ (b : Bool). cond b (Some (method.Given c j))
-    (found_if is_inherited family (class.Given e) (key_in family c j)))
-    other ∙ ap (found_if is_inherited family (class.Given e)) none
+    (found_for_if family (class.Given e) (key_in family c j)))
+    other ∙ ap (found_for_if family (class.Given e)) none
 
 pub private_within : (family : Family) (c j : ℕ) → is_private (flags_in family c j) ≡ true → c < length family
 private_within family c j private = by (slice_get family c) refl private

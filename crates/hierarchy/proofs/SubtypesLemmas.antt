@@ -64,7 +64,7 @@ module _ (family : Family) where
             none_there : Contains [] e → ⊥
             none_there (k, small, at) = omega arith
 
-    along_superclasses : {c e : ℕ} {ds : List ℕ} → AreSuperclasses family c ds → is_interface_in family e ≡ false
+    pub along_superclasses : {c e : ℕ} {ds : List ℕ} → AreSuperclasses family c ds → is_interface_in family e ≡ false
         → IsAncestor family c e → Contains ds e
     along_superclasses {c} {e} supers plain (parent edge) =
         first_superclass supers (parent_is_superclass c e plain edge)

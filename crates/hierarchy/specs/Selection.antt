@@ -4,6 +4,7 @@ use Rattle.std.specs.Prelude.{option_map, is_some, if◌then◌else◌}
 use Rattle.std.specs.List.{filter, find, list_any, range_with_len}
 use Rattle.std.specs.Option.{option_or}
 use Rattle.std.specs.Str.{bytes_eq}
+use Rattle.built_in.specs.declared.class_id.BuiltIn.TheVariants as builtins
 use Rattle.built_in.specs.declared.class_id.ClassId.{ClassId}
 use Rattle.built_in.specs.declared.class_id.ClassId.TheVariants as class
 use Rattle.built_in.specs.declared.method.BuiltInMethod.{BuiltInMethod}
@@ -12,7 +13,8 @@ use Rattle.built_in.specs.Keys.{NameAndType}
 use Rattle.built_in.specs.Methods.{members_of, name_of_member, descriptor_of_member, key_of_member}
 use Rattle.loading.specs.declared.given.Superclass.{Superclass}
 use Rattle.loading.specs.declared.given.Superclass.TheVariants as super
-use Rattle.loading.specs.Families.{Family, is_interface_in, superclass_in}
+use Rattle.loading.specs.Families.{Family, is_interface_in, superclass_in, substitute_in}
+use Rattle.loading.specs.ClassIds.{replaced}
 use Rattle.hierarchy.specs.declared.member.Method.{Method}
 use Rattle.hierarchy.specs.declared.member.Method.TheVariants as method
 use Rattle.hierarchy.specs.Initialization.{given_superclasses}
@@ -109,13 +111,28 @@ found_if test family x (Some key) = found_from test family key x
 
 -- ---- for an object of a class (invokevirtual, invokeinterface)
 
+abbrev pub found_in_given : Family → NameAndType → Option ℕ → Option Method
+found_in_given family key None = None
+found_in_given family key (Some d) = found_from is_inherited family key (class.Given d)
+
+-- For an object of a built-in class the search begins at its substitute, and for an array it goes on at that of Object.
+abbrev pub found_for : Family → NameAndType → ClassId → Option Method
+found_for family key (class.Given c) = found_from is_inherited family key (class.Given c)
+found_for family key (class.BuiltIn b) = found_from is_inherited family key (replaced family (class.BuiltIn b))
+found_for family key (class.Array a) =
+    option_or (member_with key array_members) (found_in_given family key (substitute_in family builtins.Object))
+
+abbrev pub found_for_if : Family → ClassId → Option NameAndType → Option Method
+found_for_if family x None = None
+found_for_if family x (Some key) = found_for family key x
+
 -- What a call of a resolved method runs on an object of a class: a private one itself, and any other one by its name
 -- and descriptor (`Selects` as a function).
 unfoldable pub selected : Family → ClassId → Method → Option Method
 selected family x (method.Given c k) =
     if is_private (flags_in family c k) then Some (method.Given c k)
-    else found_if is_inherited family x (key_in family c k)
-selected family x (method.BuiltIn m) = found_from is_inherited family (key_of_member m) x
+    else found_for_if family x (key_in family c k)
+selected family x (method.BuiltIn m) = found_for family (key_of_member m) x
 
 -- ---- invokespecial (JVMS 6.5)
 

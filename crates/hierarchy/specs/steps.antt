@@ -28,3 +28,4 @@ pub mod Selectable
 pub mod HeldTexts
 pub mod BuiltInTexts
 pub mod TextNumbers
+pub mod Beyond

@@ -7,7 +7,7 @@ ghost use Rattle.hierarchy.specs.steps.NearestMembers.{AreNearest};
 ghost use Rattle.std.specs.List.{Contains};
 ghost use Rattle.hierarchy.specs.steps.Reaches.{Nearest, classes_noted};
 ghost use Rattle.hierarchy.specs.steps.Tops.{IsTop};
-ghost use Rattle.loading.specs.Families.{IsFamily, superclass_in, superclasses_in};
+ghost use Rattle.loading.specs.Families.{IsFamily, substitute_in, superclass_in, superclasses_in};
 ghost use Rattle.hierarchy.specs.steps.HierarchyTables.{wanted_in};
 ghost use Rattle.hierarchy.specs.steps.MemberTables.{IsTableOf};
 ghost use Rattle.built_in.specs.Keys.{NameAndType};
@@ -15,7 +15,9 @@ ghost use Rattle.built_in.specs.Methods.{key_of_member};
 ghost use Rattle.hierarchy.specs.steps.MemberKeys.{IsLookup, AreNumbers};
 ghost use Rattle.hierarchy.specs.MemberLookup.{flags_in, is_inherited, key_in, member_flags};
 ghost use Rattle.hierarchy.specs.MemberNames.{text_in, named_in};
+ghost use Rattle.hierarchy.specs.Subtypes.{is_above_built_in};
 
+use crate::beyond::Beyond;
 use crate::member::DeclaredMember;
 use crate::member_key::MemberKey;
 use crate::member_name::MemberName;
@@ -39,6 +41,7 @@ pub struct Hierarchy {
     family: Family,
     table: MemberTable,
     nearest: NearestMembers,
+    beyond: Beyond,
 }
 
 // By hand, since a derived one is proved anew wherever one is let go.
@@ -48,6 +51,7 @@ impl Drop for Hierarchy {
             family: _,
             table: _,
             nearest: _,
+            beyond: _,
         } = self;
     }
 }
@@ -60,7 +64,7 @@ impl Model for Hierarchy {
 
     ghost view = { λ h. record { family = h.family; texts = h.table.texts } };
 
-    ghost invariant = { λ h. IsHierarchy h.family h.table h.nearest };
+    ghost invariant = { λ h. IsHierarchy h.family h.table h.nearest h.beyond };
 }
 
 impl Hierarchy {
@@ -72,11 +76,15 @@ impl Hierarchy {
         ensures { IfOk result (λ h. h.family ≡ family) }
     {
         match tables_of(alloc, &family) {
-            Ok((table, nearest)) => Ok(Hierarchy {
-                family,
-                table,
-                nearest,
-            }),
+            Ok((table, nearest)) => match Beyond::of_family(alloc, &family) {
+                Ok(beyond) => Ok(Hierarchy {
+                    family,
+                    table,
+                    nearest,
+                    beyond,
+                }),
+                Err(error) => Err(error),
+            },
             Err(error) => Err(error),
         }
     }
@@ -86,6 +94,21 @@ impl Hierarchy {
         ensures { result.now ≡ self.now.family }
     {
         &self.family
+    }
+
+    /// The number of a built-in class's substitute.
+    pub(crate) fn substitute(&self, class: BuiltIn) -> Option<u32>
+        ensures { result ≡ substitute_in self.now.family class }
+    {
+        self.family.substitute(class)
+    }
+
+    /// Whether a built-in class's substitute is a given class, or below it.
+    pub(crate) fn is_above_built_in(&self, class: BuiltIn, other: u32) -> bool
+        ensures { result ≡ is_above_built_in self.now.family class other }
+    {
+        let beyond = &self.beyond;
+        beyond.is_below(class, other)
     }
 
     /// The text of a number, or no bytes.

@@ -8,6 +8,7 @@ mod answered_method;
 mod answers;
 mod ascent;
 mod asked;
+mod beyond;
 mod bits;
 mod built_in_texts;
 pub mod class_lists;

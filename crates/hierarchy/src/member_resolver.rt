@@ -5,7 +5,7 @@ ghost use Rattle.hierarchy.specs.MemberNames.{named_in};
 ghost use Rattle.hierarchy.specs.Resolution.{ResolvesField, ResolvesMethod};
 ghost use Rattle.hierarchy.specs.declared.member.Field.{Field as Resolved};
 ghost use Rattle.hierarchy.specs.declared.member.Method.{Method as ResolvedMethod};
-ghost use Rattle.hierarchy.specs.steps.FoundAhead.{given_field, given_method};
+ghost use Rattle.hierarchy.specs.steps.FoundAhead.{given_method};
 
 use crate::ancestors::Ancestors;
 use crate::asked::MemberKind;
@@ -122,7 +122,8 @@ impl<'a> MemberResolver<'a> {
             return None;
         };
         let found = self.fields.get(class, self.hierarchy.key(member))?;
-        Some(given_field(found))
+        let sought = self.hierarchy.sought(member);
+        Some(self.hierarchy.found_field(class, found, sought))
     }
 
     /// The method of a reference, if it was resolved ahead.
@@ -136,14 +137,6 @@ impl<'a> MemberResolver<'a> {
         let found = self.methods.get(class, self.hierarchy.key(member))?;
         Some(given_method(found))
     }
-}
-
-/// A declared field as one that a reference resolves to.
-fn given_field(found: Option<DeclaredMember>) -> Option<Field>
-    ensures { result ≡ given_field found }
-{
-    let DeclaredMember { class, index } = found?;
-    Some(Field::Given { class, index })
 }
 
 /// A declared method as one that a reference resolves to.

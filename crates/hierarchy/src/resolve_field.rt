@@ -1,20 +1,22 @@
 //! Resolution of fields (JVMS 5.4.3.2).
 
-ghost use Rattle.std.specs.Prelude.{◌≡◌, ◌↔◌, IsTrue, IfOk};
+ghost use Rattle.std.specs.Prelude.{◌≡◌, ◌↔◌, [], ◌∷◌, Some, IsTrue, IfOk};
+ghost use Rattle.built_in.specs.declared.class_id.BuiltIn.TheVariants as builtins;
+ghost use Rattle.loading.specs.Families.{substitute_in};
+ghost use Rattle.hierarchy.specs.MemberLookup.{field_in};
+ghost use Rattle.hierarchy.specs.Search.{Search};
 ghost use Rattle.built_in.specs.declared.class_id.ClassId.TheVariants as class_ids;
 ghost use Rattle.built_in.specs.Methods.{out_key};
 ghost use Rattle.loading.specs.Families.{Family as Classes};
-ghost use Rattle.built_in.specs.Keys.{NameAndType};
 ghost use Rattle.hierarchy.specs.MemberNames.{named_in};
 ghost use Rattle.hierarchy.specs.steps.Ancestors.{AreOf};
 ghost use Rattle.hierarchy.specs.Resolution.{ResolvesField};
-ghost use Rattle.hierarchy.specs.steps.MemberKeys.{AreNumbers};
+ghost use Rattle.hierarchy.specs.steps.MemberKeys.{IsLookup};
 ghost use Rattle.hierarchy.specs.steps.Sought.{sought_name};
 
 use crate::ancestors::Ancestors;
 use crate::hierarchy::Hierarchy;
 use crate::member::{DeclaredMember, Field};
-use crate::member_key::MemberKey;
 use crate::member_name::MemberName;
 use crate::sought::Sought;
 use crate::wanted::Wanted;
@@ -36,10 +38,7 @@ impl Hierarchy {
         ensures field { IfOk result (ResolvesField self.now.family (named_in self.now.family member) class) }
     {
         match class {
-            ClassId::Given(class) => {
-                let field = self.given_field(ancestors, class, self.key(member))?;
-                Ok(field)
-            }
+            ClassId::Given(class) => self.given_field(ancestors, class, self.sought(member)),
             ClassId::BuiltIn(class) => Ok(built_in_field(class, self.sought(member))),
             ClassId::Array(_) => Ok(None),
         }
@@ -50,17 +49,51 @@ impl Hierarchy {
         &self,
         ancestors: &mut Ancestors,
         class: u32,
-        key: MemberKey,
+        sought: Sought<'_>,
     ) -> Result<Option<Field>, AllocError>
         requires known { AreOf self.now.family ancestors.old }
+        requires lookup { IsLookup self.now.texts (sought_name sought) sought.key }
         ensures known { AreOf self.now.family ancestors.new }
-        ensures field { IfOk result (λ field. (name : NameAndType) → AreNumbers self.now.texts name key
-            → ResolvesField self.now.family name (class_ids.Given class) field) }
+        ensures field { IfOk result (ResolvesField self.now.family (sought_name sought.entry) (class_ids.Given class)) }
     {
-        let first = self.first_field(ancestors, class, Some(key))?;
-        match first {
-            Some(DeclaredMember { class, index }) => Ok(Some(Field::Given { class, index })),
-            None => Ok(None),
+        let first = self.first_field(ancestors, class, sought.key)?;
+        Ok(self.found_field(class, first, sought))
+    }
+
+    /// The field that a search from a given class found, or else `System.out`, of the substitute of System.
+    pub(crate) fn found_field(
+        &self,
+        class: u32,
+        found: Option<DeclaredMember>,
+        sought: Sought<'_>,
+    ) -> Option<Field>
+        ensures { Search self.now.family (field_in self.now.family (sought_name sought.entry)) (class ∷ []) found
+            → ResolvesField self.now.family (sought_name sought.entry) (class_ids.Given class) result }
+    {
+        match found {
+            Some(DeclaredMember { class, index }) => Some(Field::Given { class, index }),
+            None => self.is_out_of(class, sought).then_some(Field::Out),
+        }
+    }
+
+    /// Whether a given class is the substitute of System, and this is the name and the descriptor of `System.out`.
+    fn is_out_of(&self, class: u32, sought: Sought<'_>) -> bool
+        ensures { IsTrue result ↔ ((substitute_in self.now.family builtins.System ≡ Some class)
+            × (sought_name sought.entry ≡ out_key)) }
+    {
+        if !self.is_system(class) {
+            return false;
+        }
+        is_out(sought)
+    }
+
+    /// Whether a given class is the substitute of System.
+    fn is_system(&self, class: u32) -> bool
+        ensures { IsTrue result ↔ (substitute_in self.now.family builtins.System ≡ Some class) }
+    {
+        match self.substitute(BuiltIn::System) {
+            Some(given) => given == class,
+            None => false,
         }
     }
 }

@@ -19,7 +19,7 @@ use crate::member_name::MemberName;
 use crate::search::{array_method, built_in_method};
 use crate::sought::Sought;
 use crate::wanted::Wanted;
-use built_in::class_id::ClassId;
+use built_in::class_id::{ArrayType, BuiltIn, ClassId};
 use loading::given::Superclass;
 use std::alloc::AllocError;
 
@@ -53,13 +53,73 @@ impl Hierarchy {
         ensures method { IfOk result (ResolvesMethod self.now.family (sought_name sought.entry) class) }
     {
         match class {
-            ClassId::Given(class) if self.family().is_interface(class) => {
-                self.resolve_in_interface(ancestors, class, sought.key)
-            }
-            ClassId::Given(class) => self.resolve_in_class(ancestors, class, sought),
-            ClassId::BuiltIn(class) => Ok(built_in_method(class, sought)),
-            ClassId::Array(_) => Ok(array_method(sought)),
+            ClassId::Given(class) => self.resolve_in_given(ancestors, class, sought),
+            ClassId::BuiltIn(class) => self.resolve_in_built_in(ancestors, class, sought),
+            ClassId::Array(array) => self.resolve_in_array(ancestors, array, sought),
         }
+    }
+
+    /// The method that a built-in class and what is looked for stand for: its own, or else as its substitute.
+    fn resolve_in_built_in(
+        &self,
+        ancestors: &mut Ancestors,
+        class: BuiltIn,
+        sought: Sought<'_>,
+    ) -> Result<Option<Method>, AllocError>
+        requires known { AreOf self.now.family ancestors.old }
+        requires lookup { IsLookup self.now.texts (sought_name sought) sought.key }
+        ensures known { AreOf self.now.family ancestors.new }
+        ensures method { IfOk result
+            (ResolvesMethod self.now.family (sought_name sought.entry) (class_ids.BuiltIn class)) }
+    {
+        if let Some(method) = built_in_method(class, sought) {
+            return Ok(Some(method));
+        }
+        match self.substitute(class) {
+            Some(given) => self.resolve_in_given(ancestors, given, sought),
+            None => Ok(None),
+        }
+    }
+
+    /// The method that an array class and what is looked for stand for: its own, or else as the substitute of Object.
+    fn resolve_in_array(
+        &self,
+        ancestors: &mut Ancestors,
+        array: ArrayType,
+        sought: Sought<'_>,
+    ) -> Result<Option<Method>, AllocError>
+        requires known { AreOf self.now.family ancestors.old }
+        requires lookup { IsLookup self.now.texts (sought_name sought) sought.key }
+        ensures known { AreOf self.now.family ancestors.new }
+        ensures method { IfOk result
+            (ResolvesMethod self.now.family (sought_name sought.entry) (class_ids.Array array)) }
+    {
+        if let Some(method) = array_method(sought) {
+            return Ok(Some(method));
+        }
+        match self.substitute(BuiltIn::Object) {
+            Some(given) => self.resolve_in_given(ancestors, given, sought),
+            None => Ok(None),
+        }
+    }
+
+    /// The method that a given class and what is looked for stand for.
+    fn resolve_in_given(
+        &self,
+        ancestors: &mut Ancestors,
+        class: u32,
+        sought: Sought<'_>,
+    ) -> Result<Option<Method>, AllocError>
+        requires known { AreOf self.now.family ancestors.old }
+        requires lookup { IsLookup self.now.texts (sought_name sought) sought.key }
+        ensures known { AreOf self.now.family ancestors.new }
+        ensures method { IfOk result
+            (ResolvesMethod self.now.family (sought_name sought.entry) (class_ids.Given class)) }
+    {
+        if self.family().is_interface(class) {
+            return self.resolve_in_interface(ancestors, class, sought.key);
+        }
+        self.resolve_in_class(ancestors, class, sought)
     }
 
     /// The method that an interface and the name and descriptor of a reference stand for.

@@ -1,6 +1,6 @@
 //! Searches through superinterfaces and superclasses (JVMS 5.4.3.2 to 5.4.3.4).
 
-ghost use Rattle.std.specs.Prelude.{◌≡◌, ◌<◌, ◌≤◌, [], ◌∷◌, ◌++◌, ℕ, List, Option, None, Some, IfOk};
+ghost use Rattle.std.specs.Prelude.{◌≡◌, ◌<◌, ◌≤◌, [], ◌∷◌, ◌++◌, ℕ, List, Option, None, Some, IfOk, MatchOption};
 ghost use Rattle.std.specs.Bool.{MatchBool};
 ghost use Rattle.hierarchy.specs.declared.ancestors.PlacedMember.{PlacedMember as Found};
 ghost use Rattle.graph.specs.Seen.{AreDistinct};
@@ -10,9 +10,8 @@ ghost use Rattle.hierarchy.specs.steps.HierarchyTables.{wanted_in, interface_fie
 ghost use Rattle.built_in.specs.Keys.{NameAndType};
 ghost use Rattle.hierarchy.specs.steps.MemberKeys.{IsLookup};
 ghost use Rattle.hierarchy.specs.MemberLookup.{UpClasses, field_in};
-ghost use Rattle.built_in.specs.declared.class_id.ArrayType.{ArrayType};
-ghost use Rattle.built_in.specs.declared.class_id.ClassId.TheVariants as class_ids;
-ghost use Rattle.hierarchy.specs.Resolution.{ResolvesMethod, SelectsByKey};
+ghost use Rattle.hierarchy.specs.Resolution.{IsNoArrayMember};
+ghost use Rattle.hierarchy.specs.steps.Sought.{IsArrayMethod};
 ghost use Rattle.hierarchy.specs.Search.{Search};
 ghost use Rattle.hierarchy.specs.steps.Sought.{sought_name};
 ghost use Rattle.loading.specs.Families.{Family as Classes};
@@ -202,10 +201,8 @@ pub(crate) fn built_in_method(class: BuiltIn, sought: Sought<'_>) -> Option<Meth
 
 /// The method of an array class.
 pub(crate) fn array_method(sought: Sought<'_>) -> Option<Method>
-    ensures resolved { (family : Classes) (array : ArrayType)
-        → ResolvesMethod family (sought_name sought.entry) (class_ids.Array array) result }
-    ensures selected { (family : Classes) (array : ArrayType)
-        → SelectsByKey family (sought_name sought.entry) (class_ids.Array array) result }
+    ensures { MatchOption result (IsNoArrayMember (sought_name sought.entry))
+        (λ m. IsArrayMethod (sought_name sought.entry) m) }
 {
     let method = BuiltInMethod::of_array(sought.name, sought.descriptor)?;
     Some(Method::BuiltIn(method))

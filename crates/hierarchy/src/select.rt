@@ -13,7 +13,7 @@ use crate::member::{DeclaredMember, Method};
 use crate::search::{array_method, built_in_method};
 use crate::sought::Sought;
 use crate::wanted::Wanted;
-use built_in::class_id::ClassId;
+use built_in::class_id::{ArrayType, BuiltIn, ClassId};
 use classfile::flags::{PRIVATE, has_flag};
 use loading::given::Superclass;
 
@@ -54,8 +54,33 @@ impl Hierarchy {
     {
         match class {
             ClassId::Given(class) => self.select_in_class(class, sought),
-            ClassId::BuiltIn(class) => built_in_method(class, sought),
-            ClassId::Array(_) => array_method(sought),
+            ClassId::BuiltIn(class) => self.select_in_built_in(class, sought),
+            ClassId::Array(array) => self.select_in_array(array, sought),
+        }
+    }
+
+    /// The method of a name and a descriptor for an object of a built-in class: from its substitute up, if it has one.
+    fn select_in_built_in(&self, class: BuiltIn, sought: Sought<'_>) -> Option<Method>
+        requires { IsLookup self.now.texts (sought_name sought) sought.key }
+        ensures { SelectsByKey self.now.family (sought_name sought.entry) (class_ids.BuiltIn class) result }
+    {
+        match self.substitute(class) {
+            Some(given) => self.select_in_class(given, sought),
+            None => built_in_method(class, sought),
+        }
+    }
+
+    /// The method of a name and a descriptor for an array: its own, or else from the substitute of Object up.
+    fn select_in_array(&self, array: ArrayType, sought: Sought<'_>) -> Option<Method>
+        requires { IsLookup self.now.texts (sought_name sought) sought.key }
+        ensures { SelectsByKey self.now.family (sought_name sought.entry) (class_ids.Array array) result }
+    {
+        if let Some(method) = array_method(sought) {
+            return Some(method);
+        }
+        match self.substitute(BuiltIn::Object) {
+            Some(given) => self.select_in_class(given, sought),
+            None => None,
         }
     }
 

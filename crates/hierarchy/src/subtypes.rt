@@ -2,12 +2,15 @@
 
 ghost use Rattle.std.specs.Prelude.{◌≡◌, ◌==◌};
 ghost use Rattle.std.specs.List.{list_any};
+ghost use Rattle.built_in.specs.ClassNames.{all_built_in};
+ghost use Rattle.built_in.specs.Subclasses.{is_same_built_in};
 ghost use Rattle.hierarchy.specs.Initialization.{given_superclasses};
 ghost use Rattle.hierarchy.specs.Subclasses.{is_above};
-ghost use Rattle.hierarchy.specs.Subtypes.{is_below, is_class_below, is_given_below, is_built_in_class_below};
-ghost use Rattle.hierarchy.specs.Subtypes.{is_array_below, is_array_type_below, is_element_below, is_object_element};
-ghost use Rattle.hierarchy.specs.Subtypes.{is_unknown_below};
-ghost use Rattle.hierarchy.specs.Subtypes.{is_object, class_of_element, type_code, is_end_below, end_of_chain};
+ghost use Rattle.hierarchy.specs.Subtypes.{are_below, class_of_element, end_of_chain, has_slots_of, is_array_below};
+ghost use Rattle.hierarchy.specs.Subtypes.{is_array_type_below, is_below, is_built_in_class_below, is_class_below};
+ghost use Rattle.hierarchy.specs.Subtypes.{is_element_below, is_end_below, is_given_below, is_object};
+ghost use Rattle.hierarchy.specs.Subtypes.{is_object_element, is_reached, is_unknown_below, type_code};
+ghost use Rattle.hierarchy.specs.steps.Beyond.{is_by_way_of, is_directly_below, is_end, is_under};
 
 use crate::class_set::ClassSet;
 use crate::few_classes::FewClasses;
@@ -17,8 +20,27 @@ use std::cmp::Ordering;
 
 impl Hierarchy {
     /// Whether a class is another one, or below it: whether its objects can be cast to that.
+    #[tactic(auto, unfolding(crate::specs::Subtypes::is_below))]
     pub fn is_below(&self, class: ClassId, other: ClassId) -> bool
         ensures { result ≡ is_below self.now.family class other }
+    {
+        self.are_below(self.family().replaced(class), self.family().replaced(other))
+    }
+
+    /// Whether objects of a class have the slots of a built-in one, which it is or ends below.
+    pub fn has_slots_of(&self, class: ClassId, other: BuiltIn) -> bool
+        ensures { result ≡ has_slots_of self.now.family other class }
+    {
+        match class {
+            ClassId::Given(class) => self.is_top_below(class, other),
+            ClassId::BuiltIn(class) => class.is_below(other),
+            ClassId::Array(_) => false,
+        }
+    }
+
+    /// Whether a class is another one, or below it, where substitutes stand in the place of built-in classes.
+    fn are_below(&self, class: ClassId, other: ClassId) -> bool
+        ensures { result ≡ are_below self.now.family class other }
     {
         match class {
             ClassId::Array(array) => self.is_array_below(array, other),
@@ -42,9 +64,65 @@ impl Hierarchy {
         ensures { result ≡ is_given_below self.now.family class other }
     {
         match other {
-            ClassId::Given(other) => class == other || self.is_above(class, other),
+            ClassId::Given(other) => self.is_reached(class, other),
             ClassId::BuiltIn(other) => self.is_top_below(class, other),
             ClassId::Array(_) => false,
+        }
+    }
+
+    /// Whether the second of two given classes is the first, or reached from it by steps up: by given parents, or by
+    /// way of a substitute.
+    fn is_reached(&self, class: u32, other: u32) -> bool
+        ensures { result ≡ is_reached self.now.family class other }
+    {
+        let _classes = self.family().classes();
+        if self.is_under(class, Some(other)) {
+            return true;
+        }
+        self.is_beyond(class, other)
+    }
+
+    /// Whether the second of two given classes is reached by way of a substitute. Without the library there is none.
+    fn is_beyond(&self, class: u32, other: u32) -> bool
+        ensures { result ≡ list_any (is_by_way_of self.now.family class other) all_built_in }
+    {
+        match self.substitute(BuiltIn::Object) {
+            Some(_) => self.is_by_way_of_one(class, other),
+            None => false,
+        }
+    }
+
+    /// The same where the library is there. The first substitute on the way is that of the built-in class at the end of
+    /// the superclasses, or that of one above a substitute.
+    fn is_by_way_of_one(&self, class: u32, other: u32) -> bool
+        ensures { result ≡ list_any (is_by_way_of self.now.family class other) all_built_in }
+    {
+        BuiltIn::all()
+            .iter()
+            .any(|built_in| self.is_by_way_of(class, other, *built_in))
+    }
+
+    /// Whether the second of two given classes is reached by way of this substitute.
+    fn is_by_way_of(&self, class: u32, other: u32, built_in: BuiltIn) -> bool
+        ensures { result ≡ is_by_way_of self.now.family class other built_in }
+    {
+        self.is_above_built_in(built_in, other) && self.is_directly_below(class, built_in)
+    }
+
+    /// Whether a given class ends at a built-in one, or is its substitute or below that by given parents.
+    fn is_directly_below(&self, class: u32, other: BuiltIn) -> bool
+        ensures { result ≡ is_directly_below self.now.family class other }
+    {
+        self.is_end(class, other) || self.is_under(class, self.substitute(other))
+    }
+
+    /// Whether the second of two given classes is the first, or above it by given parents.
+    fn is_under(&self, class: u32, other: Option<u32>) -> bool
+        ensures { result ≡ is_under self.now.family class other }
+    {
+        match other {
+            Some(other) => class == other || self.is_above(class, other),
+            None => false,
         }
     }
 
@@ -93,6 +171,17 @@ impl Hierarchy {
         self.supers(class).any(|above| above == other)
     }
 
+    /// Whether a built-in class is the one at the end of a given one's superclasses.
+    fn is_end(&self, class: u32, other: BuiltIn) -> bool
+        ensures { result ≡ is_end other (end_of_chain self.now.family class) }
+    {
+        let _classes = self.family().classes();
+        match self.top(class) {
+            Some(top) => is_same(top, other),
+            None => false,
+        }
+    }
+
     /// Whether the built-in class above a given one is below another built-in class.
     pub(crate) fn is_top_below(&self, class: u32, other: BuiltIn) -> bool
         ensures { result ≡ is_end_below other (end_of_chain self.now.family class) }
@@ -111,7 +200,7 @@ impl Hierarchy {
         match other {
             ClassId::Array(other) => self.is_array_type_below(array, other),
             ClassId::BuiltIn(other) => is_object(other),
-            ClassId::Given(_) => false,
+            ClassId::Given(other) => self.is_above_built_in(BuiltIn::Object, other),
         }
     }
 
@@ -121,7 +210,7 @@ impl Hierarchy {
     {
         match array.dimensions.cmp(&other.dimensions) {
             Ordering::Equal => self.is_element_below(array.element, other.element),
-            Ordering::Greater => is_object_element(other.element),
+            Ordering::Greater => self.is_object_element(other.element),
             Ordering::Less => false,
         }
     }
@@ -131,11 +220,32 @@ impl Hierarchy {
         ensures { result ≡ is_element_below self.now.family element other }
     {
         if let ElementType::Unknown(name) = element {
-            return is_unknown_below(name, other);
+            return self.is_unknown_below(name, other);
         }
         match (class_of(element), class_of(other)) {
             (Some(class), Some(other)) => self.is_class_below(class, other),
             (None, None) => type_code(element) == type_code(other),
+            _ => false,
+        }
+    }
+
+    /// Whether a class that is neither given nor built in is an element type, or below it.
+    fn is_unknown_below(&self, name: u32, other: ElementType) -> bool
+        ensures { result ≡ is_unknown_below self.now.family name other }
+    {
+        match other {
+            ElementType::Unknown(other) => name == other,
+            other => self.is_object_element(other),
+        }
+    }
+
+    /// Whether an element type is the class Object, or above it.
+    fn is_object_element(&self, element: ElementType) -> bool
+        ensures { result ≡ is_object_element self.now.family element }
+    {
+        match element {
+            ElementType::BuiltIn(class) => is_object(class),
+            ElementType::Given(class) => self.is_above_built_in(BuiltIn::Object, class),
             _ => false,
         }
     }
@@ -151,24 +261,11 @@ fn is_built_in_class_below(class: BuiltIn, other: ClassId) -> bool
     }
 }
 
-/// Whether a class that is neither given nor built in is an element type, or below it.
-fn is_unknown_below(name: u32, other: ElementType) -> bool
-    ensures { result ≡ is_unknown_below name other }
+/// Whether two built-in classes are the same.
+fn is_same(class: BuiltIn, other: BuiltIn) -> bool
+    ensures { result ≡ is_same_built_in class other }
 {
-    match other {
-        ElementType::Unknown(other) => name == other,
-        other => is_object_element(other),
-    }
-}
-
-/// Whether an element type is the class Object.
-fn is_object_element(element: ElementType) -> bool
-    ensures { result ≡ is_object_element element }
-{
-    match element {
-        ElementType::BuiltIn(class) => is_object(class),
-        _ => false,
-    }
+    class == other
 }
 
 fn is_object(class: BuiltIn) -> bool

@@ -20,7 +20,7 @@ use Rattle.loading.specs.ClassIds.IsNamed.{given, built_in, array}
 use Rattle.loading.specs.Families.{Family, name_in, file_of}
 use Rattle.loading.specs.Names.{name_of}
 use Rattle.image_format.specs.Names.{class_name}
-use Rattle.loading.specs.steps.BuiltIns.{all_built_in}
+use Rattle.built_in.specs.ClassNames.{all_built_in}
 use Rattle.image_parser.specs.reading.ClassNames.{below, all_elements, arrays_of, all_classes, is_class}
 use Rattle.image_parser.specs.reading.ClassNames.{is_named, first_named, class_of}
 

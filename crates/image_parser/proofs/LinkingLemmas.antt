@@ -28,7 +28,7 @@ use Rattle.loading.specs.Files.{IsGiven, IsBuiltIn, IsUnknown, IsGivenClass, IsT
 use Rattle.loading.specs.Files.{No, IsLeast, LinkFails, Links, limit, taken}
 use Rattle.loading.specs.Names.{name_of, superclass_of, interfaces_of, is_interface}
 use Rattle.loading.specs.steps.Linking.{Ascend, AreNamed, AreParents, AreInterfaces, IsSuperclass, HasBadSuperclass}
-use Rattle.loading.specs.steps.Linking.{HasBadInterface, name_at, name_among, is_interface_at, may_be_extended}
+use Rattle.loading.specs.steps.Linking.{HasBadInterface, name_at, name_among, is_interface_at, may_be_extended, meant}
 use Rattle.loading.specs.steps.Linking.{is_object, class_of_parts, file_of_class, parents_of_class, none_named}
 use Rattle.loading.specs.steps.Linking.{unknown_class, not_extended, not_below_object, one_unknown, one_no_interface}
 use Rattle.loading.proofs.FilesParentLemmas.{class_file, named_known, least_superclass, least_interface, no_bad_parent}
@@ -41,7 +41,7 @@ use Rattle.loading.proofs.LinkingPlaceLemmas.{NoneBefore, none_more, member_at}
 use Rattle.loading.proofs.OwnNamesLemmas.{own_name}
 use Rattle.hierarchy.proofs.AscentsOrderLemmas.{none_in_empty, in_front, in_rest, cons_cases}
 use Rattle.image_format.proofs.NamesLemmas.{name_fits}
-use Rattle.loading.specs.steps.BuiltIns.{all_built_in}
+use Rattle.built_in.specs.ClassNames.{all_built_in}
 use Rattle.image_parser.proofs.AncestorLemmas.{Known, first_on_cycle}
 use Rattle.image_parser.proofs.ClassNameLemmas.{Member, built_member}
 use Rattle.image_parser.proofs.OneOfLemmas.{all_or_first}
@@ -147,21 +147,31 @@ module _ (files : List ClassFile) (named : AreNamed files) where
   superclass_or f = by_name (superclass_of f) refl
     where
       by_kind : (name : List ℕ) (class : Superclass) → superclass_of f ≡ Some name → name_among files class ≡ Some name
-          → may_be_extended files class ≡ true → (i o : Bool) → is_interface f ≡ i → is_object class ≡ o
+          → may_be_extended files f class ≡ true → (i o : Bool) → is_interface f ≡ i → is_object class ≡ o
           → ((class : Superclass) × IsSuperclass files f class) ⊎ ((kind : BadParent) × HasBadSuperclass files f kind)
       by_kind name class e among open' true false i o =
           inr (bad.NotObject, not_below_object class name e among open' i o)
       by_kind name class e among open' true true i o = inl (
-        class,
-        record { name = name; named = e; among = among; extended = open'; object = λ h. o },
+        meant files f class,
+        record {
+          name = name; named = e; of_name = class; among = among; extended = open'; object = λ h. o; is = refl;
+        },
       )
       by_kind name class e among open' false o i is = inl (
-        class,
-        record { name = name; named = e; among = among; extended = open'; object = λ h. absurd cc },
+        meant files f class,
+        record {
+          name = name;
+          named = e;
+          of_name = class;
+          among = among;
+          extended = open';
+          object = λ h. absurd cc;
+          is = refl;
+        },
       )
 
       by_class : (name : List ℕ) (class : Superclass) → superclass_of f ≡ Some name → name_among files class ≡ Some name
-          → (open' : Bool) → may_be_extended files class ≡ open'
+          → (open' : Bool) → may_be_extended files f class ≡ open'
           → ((class : Superclass) × IsSuperclass files f class) ⊎ ((kind : BadParent) × HasBadSuperclass files f kind)
       by_class name class e among false is = inr (bad.NoClass, not_extended class name e among is)
       by_class name class e among true is =
@@ -171,7 +181,7 @@ module _ (files : List ClassFile) (named : AreNamed files) where
           → ((class : Superclass) × IsSuperclass files f class) ⊎ ((kind : BadParent) × HasBadSuperclass files f kind)
       by_name None e = inr (bad.NoSuperclass, none_named e)
       by_name (Some name) e = elim (class_among files name) [
-        | inl some ↦ by_class name some.0 e some.1 (may_be_extended files some.0) refl
+        | inl some ↦ by_class name some.0 e some.1 (may_be_extended files f some.0) refl
         | inr unknown ↦ inr (bad.UnknownSuperclass, unknown_class e unknown)
       ]
 

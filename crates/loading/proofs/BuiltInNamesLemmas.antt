@@ -6,7 +6,7 @@ use Rattle.std.proofs.lemmas.Option.{same_Some}
 use Rattle.built_in.specs.declared.class_id.BuiltIn.{BuiltIn}
 use Rattle.built_in.specs.declared.class_id.BuiltIn.TheVariants as builtins
 use Rattle.built_in.specs.ClassNames.{name_of_built_in}
-use Rattle.loading.specs.steps.BuiltIns.{all_built_in}
+use Rattle.built_in.specs.ClassNames.{all_built_in}
 
 -- the first of some classes that has a name
 abbrev first_with : List ℕ → List BuiltIn → Option BuiltIn

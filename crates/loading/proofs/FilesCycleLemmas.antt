@@ -14,8 +14,9 @@ use Rattle.loading.specs.declared.fault.LinkFault.{LinkFault}
 use Rattle.loading.specs.declared.given.GivenClass.{GivenClass}
 use Rattle.loading.specs.declared.given.Superclass.{Superclass}
 use Rattle.loading.specs.declared.given.Superclass.TheVariants as super
-use Rattle.loading.specs.Names.{name_of, superclass_of, interfaces_of, Precedes}
-use Rattle.loading.specs.Families.{Family, name_in, superclass_name, parents_in, given_superclass, IsAncestor, parent}
+use Rattle.loading.specs.Names.{name_of, interfaces_of, Precedes}
+use Rattle.loading.specs.Library.{superclass_meant}
+use Rattle.loading.specs.Families.{Family, files_in, name_in, superclass_name, parents_in, given_superclass, IsAncestor, parent}
 use Rattle.loading.specs.Families.{further}
 use Rattle.loading.specs.Files.{HasFile, IsGiven, IsTwice, HasBadParents, IsParent, IsAncestorName, IsOnCycle, No}
 use Rattle.loading.specs.Files.{WithinLimit, LinkFails}
@@ -103,12 +104,13 @@ parent_number files family named m l c d name above at-c at-d given (f, given-f,
     let x = class_at files family m c f (ap (λ (k : ℕ). slice_get files k) (sym same) ∙ n.1) in
     let own : Contains (numbers_of_class x.0) d = elim up [
       | inl s ↦
-          let names : superclass_of x.0.file ≡ superclass_name family x.0.superclass =
+          let names : superclass_meant (files_in family) x.0.file ≡ superclass_name family x.0.superclass =
           rw (get_or_from_slice_get family c x.0 x.0 x.1) at
           (l.superclass_names c x.0 (slice_get_within family c x.0 x.1)) in
           Contains-append_right x.0.interfaces (given_superclass (Some x.0.superclass)) d
-          (superclass_number files family named l x.0.superclass d above (sym names ∙ ap superclass_of x.2 ∙ s) given
-          at-d)
+          (superclass_number files family named l x.0.superclass d above
+          (sym names ∙ ap (λ (z : List ClassFile). superclass_meant z x.0.file) m.same
+          ∙ ap (superclass_meant files) x.2 ∙ s) given at-d)
       | inr i ↦ Contains-append_left x.0.interfaces (given_superclass (Some x.0.superclass)) d
           (interface_number family l c x.0 d above x.1
           (subst (λ (g : ClassFile). Contains (interfaces_of g) above) (sym x.2) i) at-d)
@@ -137,11 +139,12 @@ parent_named files family m l c d name above at-c at-d has =
     )
   where
     superclass_named : (x : GivenClass) → slice_get family c ≡ Some x → x.superclass ≡ super.Given d
-        → superclass_of x.file ≡ Some above
+        → superclass_meant files x.file ≡ Some above
     superclass_named x at-x s =
-        let names : superclass_of x.file ≡ superclass_name family x.superclass =
+        let names : superclass_meant (files_in family) x.file ≡ superclass_name family x.superclass =
         rw (get_or_from_slice_get family c x x at-x) at (l.superclass_names c x (slice_get_within family c x at-x)) in
-        names ∙ ap (superclass_name family) s ∙ at-d
+        ap (λ (z : List ClassFile). superclass_meant z x.file) (sym m.same) ∙ names ∙ ap (superclass_name family) s
+        ∙ at-d
 
     interface_named : (x : GivenClass) → slice_get family c ≡ Some x → Contains x.interfaces d
         → Contains (interfaces_of x.file) above

@@ -1,6 +1,6 @@
 -- Files in another order make the same program, or have the same faults.
 use Rattle.std.proofs.Common.{◌≡◌, ℕ, zero, suc, ◌+◌, ◌<◌, ◌≤◌, ◌⊎◌, inl, inr, Bool, true, false, cond, List, [], ◌∷◌}
-use Rattle.std.proofs.Common.{length, Some, refl, sym, ap, ◌∙◌, arith}
+use Rattle.std.proofs.Common.{length, Option, Some, None, option_map, refl, sym, ap, subst, ◌∙◌, arith}
 use Rattle.std.specs.List.{Contains, slice_get, sum_by}
 use Rattle.std.specs.List.Sorted.{IsPermutation}
 use Rattle.std.specs.Str.{bytes_eq}
@@ -14,7 +14,10 @@ use Rattle.classfile.specs.Units.{units_text}
 use Rattle.loading.specs.declared.fault.BadParent.{BadParent}
 use Rattle.loading.specs.declared.fault.LinkFault.{LinkFault}
 use Rattle.loading.specs.declared.fault.LinkFault.TheVariants.{Memory}
-use Rattle.loading.specs.Names.{name_of}
+use Rattle.loading.specs.Names.{name_of, superclass_of}
+use Rattle.built_in.specs.ClassNames.{substitute_name}
+use Rattle.loading.specs.Library.{has_library, is_own, extended_name, superclass_meant}
+use Rattle.loading.proofs.LibraryLemmas.{given_library, library_given}
 use Rattle.loading.specs.Families.{Family, IsFamilyOf}
 use Rattle.loading.specs.Files.{HasFile, IsGiven, IsTwice, IsTaken, IsUnknown, IsGivenInterface, IsGivenClass}
 use Rattle.loading.specs.Files.{HasBadParent, HasBadParents, HasLeastBadParent, IsParent, IsAncestorName, IsOnCycle}
@@ -161,13 +164,51 @@ class_moved : (files moved : List ClassFile) → AreMoved files moved → (name 
     → IsGivenClass moved name
 class_moved files moved m name (f, given, kind) = (f, given_moved files moved m name f given, kind)
 
+-- the library is there, or not, in any order
+library_moved : (files moved : List ClassFile) → AreMoved files moved → has_library files ≡ has_library moved
+library_moved files moved m = by_case (has_library files) (has_library moved) refl refl
+  where
+    by_case : (a b : Bool) → has_library files ≡ a → has_library moved ≡ b → has_library files ≡ has_library moved
+    by_case true true e g = e ∙ sym g
+    by_case false false e g = e ∙ sym g
+    by_case true false e g =
+        (let there = library_given moved (λ b. is_given_moved files moved m (substitute_name b) (given_library files e b))
+        in
+        absurd cc)
+    by_case false true e g =
+        (let t = moved_the_other_way files moved m in
+        let there = library_given files (λ b. is_given_moved moved files t (substitute_name b) (given_library moved g b))
+        in
+        absurd cc)
+
+own_moved : (files moved : List ClassFile) (f : ClassFile) → has_library files ≡ has_library moved → (name : List ℕ)
+    → is_own files f name ≡ is_own moved f name
+own_moved files moved f same name = rw same refl
+
+extended_moved : (files moved : List ClassFile) (f : ClassFile) → has_library files ≡ has_library moved
+    → (name : List ℕ) → extended_name files f name ≡ extended_name moved f name
+extended_moved files moved f same name = rw same refl
+
+superclass_moved : (files moved : List ClassFile) (f : ClassFile) → has_library files ≡ has_library moved
+    → superclass_meant files f ≡ superclass_meant moved f
+superclass_moved files moved f same = of_name (superclass_of f)
+  where
+    of_name : (o : Option (List ℕ)) → option_map (extended_name files f) o ≡ option_map (extended_name moved f) o
+    of_name None = refl
+    of_name (Some name) = ap Some (extended_moved files moved f same name)
+
 bad_moved : (files moved : List ClassFile) → AreMoved files moved → (f : ClassFile) (kind : BadParent)
     → HasBadParent files f kind → HasBadParent moved f kind
 bad_moved files moved m f kind (no_superclass e) = no_superclass e
 bad_moved files moved m f kind (unknown_superclass {name} e u) =
     unknown_superclass e (unknown_moved files moved m name u)
 bad_moved files moved m f kind (no_class {name} e bad-one) =
-    no_class e (elim bad-one [ inl i ↦ inl (interface_moved files moved m name i) | inr closed ↦ inr closed ])
+    let same = library_moved files moved m in
+    no_class e (elim bad-one [
+      | inl i ↦ inl (subst (IsGivenInterface moved) (extended_moved files moved f same name)
+          (interface_moved files moved m (extended_name files f name) i))
+      | inr closed ↦ inr (closed.0, sym (own_moved files moved f same name) ∙ closed.1)
+    ])
 bad_moved files moved m f kind (not_object i e other) = not_object i e other
 bad_moved files moved m f kind (unknown_interface {name} h u) = unknown_interface h (unknown_moved files moved m name u)
 bad_moved files moved m f kind (no_interface {name} h other) =
@@ -187,7 +228,14 @@ bad_parents_moved files moved m name (f, given, kind, has) =
 
 parent_moved : (files moved : List ClassFile) → AreMoved files moved → (name above : List ℕ) → IsParent files name above
     → IsParent moved name above
-parent_moved files moved m name above (f, given, up) = (f, given_moved files moved m name f given, up)
+parent_moved files moved m name above (f, given, up) = (
+  f,
+  given_moved files moved m name f given,
+  elim up [
+    | inl s ↦ inl (sym (superclass_moved files moved f (library_moved files moved m)) ∙ s)
+    | inr i ↦ inr i
+  ],
+)
 
 ancestor_moved : (files moved : List ClassFile) → AreMoved files moved → (name above : List ℕ)
     → IsAncestorName files name above → IsAncestorName moved name above

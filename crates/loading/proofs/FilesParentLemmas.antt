@@ -1,6 +1,6 @@
 -- What is wrong with the parents of a class, and when nothing is.
-use Rattle.std.proofs.Common.{◌≡◌, ℕ, ◌<◌, ◌≤◌, ◌⊎◌, inl, inr, Bool, true, false, not, ◌||◌, List, Option, Some, None}
-use Rattle.std.proofs.Common.{map, length, get_or, refl, sym, ap, ◌∙◌, subst, arith}
+use Rattle.std.proofs.Common.{◌≡◌, ℕ, ◌<◌, ◌≤◌, ◌⊎◌, inl, inr, Bool, true, false, not, ◌||◌, ◌&&◌, List, Option, Some}
+use Rattle.std.proofs.Common.{None, map, length, get_or, refl, sym, ap, ◌∙◌, subst, arith}
 use Rattle.std.specs.List.{All, Contains, slice_get}
 use Rattle.std.specs.Prelude.{codes}
 use Rattle.std.specs.Str.{bytes_eq}
@@ -19,16 +19,20 @@ use Rattle.loading.specs.declared.given.Superclass.TheVariants as super
 use Rattle.loading.specs.declared.parents.Parents.{Parents}
 use Rattle.loading.specs.Names.{name_of, superclass_of, interfaces_of, is_interface}
 use Rattle.loading.specs.Families.{passes}
-use Rattle.loading.specs.Files.{HasFile, IsGiven, IsBuiltIn, IsUnknown, IsClosed, IsGivenInterface, IsGivenClass}
+use Rattle.loading.specs.Library.{is_own, extended_name}
+use Rattle.loading.specs.Files.{HasFile, IsGiven, IsBuiltIn, IsUnknown, IsClosed, IsClosedFor, IsGivenInterface}
+use Rattle.loading.specs.Files.{IsGivenClass}
 use Rattle.loading.specs.Files.{HasBadParent, HasLeastBadParent, bad_parent_number}
 use Rattle.loading.specs.Files.{no_superclass, unknown_superclass, no_class, not_object, unknown_interface}
 use Rattle.loading.specs.Files.{no_interface}
 use Rattle.loading.specs.steps.Linking.{none_named, unknown_class, not_extended, not_below_object, one_unknown}
 use Rattle.loading.specs.steps.Linking.{one_no_interface}
 use Rattle.loading.specs.steps.Linking.{name_at, is_interface_at, name_among, is_closed, may_be_extended, Ascend}
+use Rattle.loading.specs.steps.Linking.{meant, is_closed_for, is_interface_class}
 use Rattle.loading.specs.steps.Linking.{AreNamed, is_object, IsSuperclass, HasBadSuperclass, AreInterfaces}
 use Rattle.loading.specs.steps.Linking.{HasBadInterface, AreParents}
 use Rattle.loading.proofs.LinkingPlaceLemmas.{given_at, one_file}
+use Rattle.loading.proofs.LibraryLemmas.{meant_named}
 
 -- ---- the file of a number
 
@@ -101,44 +105,81 @@ pub named_known : (files : List ClassFile) (class : Superclass) (name : List ℕ
 named_known files (super.Given d) name e unknown = unknown.0 (named_given files d name e)
 named_known files (super.BuiltIn class) name e unknown = unknown.1 (class, same_Some (name_of_built_in class) name e)
 
+-- ---- two tests
+
+both : (a b : Bool) → (a && b) ≡ true → (a ≡ true) × (b ≡ true)
+both true true e = (refl, refl)
+both true false e = absurd cc
+both false b e = absurd cc
+
+either : (a b : Bool) → (a && b) ≡ false → (a ≡ false) ⊎ (b ≡ false)
+either true b e = inr e
+either false b e = inl refl
+
+not_not : (b : Bool) → not b ≡ false → b ≡ true
+not_not true h = refl
+not_not false h = absurd cc
+
+closed_built_in : (name : List ℕ) → IsClosed name → IsBuiltIn name
+closed_built_in name (inl h) = (builtins.String, sym h)
+closed_built_in name (inr (inl h)) = (builtins.System, sym h)
+closed_built_in name (inr (inr h)) = (builtins.PrintStream, sym h)
+
+closed_for : (files : List ClassFile) (f : ClassFile) (class : Superclass) (name : List ℕ)
+    → name_among files class ≡ Some name → is_closed_for files f class ≡ true → IsClosedFor files f name
+closed_for files f (super.Given d) name e is = absurd cc
+closed_for files f (super.BuiltIn b) name e is =
+    let parts = both (is_closed b) (not (is_own files f (name_of_built_in b))) is in
+    subst (IsClosedFor files f) (same_Some (name_of_built_in b) name e)
+    (closed_name b parts.0, not-true (is_own files f (name_of_built_in b)) parts.1)
+
+interface_meant : (files : List ClassFile) (class : Superclass) (name : List ℕ) → name_among files class ≡ Some name
+    → is_interface_class files class ≡ true → IsGivenInterface files name
+interface_meant files (super.Given d) name e is = interface_file files d name e is
+interface_meant files (super.BuiltIn b) name e is = absurd cc
+
 -- what can't be extended, is an interface or closed
-pub bad_to_extend : (files : List ClassFile) (class : Superclass) (name : List ℕ) → name_among files class ≡ Some name
-    → may_be_extended files class ≡ false
-    → IsGivenInterface files name ⊎ IsClosed name
-bad_to_extend files (super.Given d) name e n = inl (interface_file files d name e (not_not (is_interface_at files d) n))
-  where
-    not_not : (b : Bool) → not b ≡ false → b ≡ true
-    not_not true h = refl
-    not_not false h = absurd cc
-bad_to_extend files (super.BuiltIn class) name e n =
-    inr (subst (λ (z : List ℕ). IsClosed z) (same_Some (name_of_built_in class) name e)
-    (closed_name class (not_not (is_closed class) n)))
-  where
-    not_not : (b : Bool) → not b ≡ false → b ≡ true
-    not_not true h = refl
-    not_not false h = absurd cc
+pub bad_to_extend : (files : List ClassFile) (f : ClassFile) → AreNamed files → (class : Superclass) (name : List ℕ)
+    → name_among files class ≡ Some name → may_be_extended files f class ≡ false
+    → IsGivenInterface files (extended_name files f name) ⊎ IsClosedFor files f name
+bad_to_extend files f named class name e n =
+    elim (either (not (is_closed_for files f class)) (not (is_interface_class files (meant files f class))) n) [
+      | inl closed ↦ inr (closed_for files f class name e (not_not (is_closed_for files f class) closed))
+      | inr kind ↦ inl (interface_meant files (meant files f class) (extended_name files f name)
+          (meant_named files f named class name e) (not_not (is_interface_class files (meant files f class)) kind))
+    ]
+
+no_interface_meant : (files : List ClassFile) → AreNamed files → (class : Superclass) (name : List ℕ)
+    → name_among files class ≡ Some name → is_interface_class files class ≡ false → IsGivenInterface files name → ⊥
+no_interface_meant files n (super.Given d) name e is interface =
+    not_both files n.ascending name interface (class_file files d name e is)
+no_interface_meant files n (super.BuiltIn b) name e is (f, given, kind) =
+    n.free name ((f, given), (b, same_Some (name_of_built_in b) name e))
+
+not_closed_for : (files : List ClassFile) (f : ClassFile) → AreNamed files → (class : Superclass) (name : List ℕ)
+    → name_among files class ≡ Some name → is_closed_for files f class ≡ false → IsClosedFor files f name → ⊥
+not_closed_for files f n (super.Given d) name e is (closed, own) =
+    n.free name (named_given files d name e, closed_built_in name closed)
+not_closed_for files f n (super.BuiltIn b) name e is (closed, own) =
+    let same : name ≡ name_of_built_in b = sym (same_Some (name_of_built_in b) name e) in
+    let yes : is_closed b ≡ true = closed_class b (subst (λ (z : List ℕ). IsClosed z) same closed) in
+    let no : is_own files f (name_of_built_in b) ≡ false = ap (is_own files f) (sym same) ∙ own in
+    let open' : (true && not false) ≡ false = rw (yes, no) at is in
+    cc
 
 -- and what can be, is neither
-good_to_extend : (files : List ClassFile) → AreNamed files → (class : Superclass) (name : List ℕ)
-    → name_among files class ≡ Some name
-    → may_be_extended files class ≡ true → IsGivenInterface files name ⊎ IsClosed name → ⊥
-good_to_extend files n (super.Given d) name e y (inl interface) =
-    not_both files n.ascending name interface (class_file files d name e (not-true (is_interface_at files d) y))
-good_to_extend files n (super.Given d) name e y (inr closed) =
-    n.free name (named_given files d name e, closed_built_in name closed)
-  where
-    closed_built_in : (name : List ℕ) → IsClosed name → IsBuiltIn name
-    closed_built_in name (inl h) = (builtins.String, sym h)
-    closed_built_in name (inr (inl h)) = (builtins.System, sym h)
-    closed_built_in name (inr (inr h)) = (builtins.PrintStream, sym h)
-good_to_extend files n (super.BuiltIn class) name e y (inl (f, given, kind)) =
-    n.free name ((f, given), (class, same_Some (name_of_built_in class) name e))
-good_to_extend files n (super.BuiltIn class) name e y (inr closed) =
-    let is : is_closed class ≡ true =
-    closed_class class
-    (subst (λ (z : List ℕ). IsClosed z) (sym (same_Some (name_of_built_in class) name e)) closed) in
-    let none : not (is_closed class) ≡ false = ap not is in
-    cc
+good_to_extend : (files : List ClassFile) (f : ClassFile) → AreNamed files → (class : Superclass) (name : List ℕ)
+    → name_among files class ≡ Some name → may_be_extended files f class ≡ true
+    → IsGivenInterface files (extended_name files f name) ⊎ IsClosedFor files f name → ⊥
+good_to_extend files f n class name e y bad-one =
+    let parts =
+    both (not (is_closed_for files f class)) (not (is_interface_class files (meant files f class))) y in
+    elim bad-one [
+      | inl interface ↦ no_interface_meant files n (meant files f class) (extended_name files f name)
+          (meant_named files f n class name e)
+          (not-true (is_interface_class files (meant files f class)) parts.1) interface
+      | inr closed ↦ not_closed_for files f n class name e (not-true (is_closed_for files f class) parts.0) closed
+    ]
 
 -- ---- kinds that a class does not have
 
@@ -183,11 +224,12 @@ knows_superclass files f class name e named (unknown_superclass {name = other} i
 
 extends_class : (files : List ClassFile) (f : ClassFile) (class : Superclass) (name : List ℕ) → AreNamed files
     → superclass_of f ≡ Some name
-    → name_among files class ≡ Some name → may_be_extended files class ≡ true → HasBadParent files f bad.NoClass → ⊥
+    → name_among files class ≡ Some name → may_be_extended files f class ≡ true → HasBadParent files f bad.NoClass → ⊥
 extends_class files f class name n e named open' (no_class {name = other} is bad-one) =
     let same : name ≡ other = same_Some name other (sym e ∙ is) in
-    good_to_extend files n class name named open'
-    (subst (λ (z : List ℕ). IsGivenInterface files z ⊎ IsClosed z) (sym same) bad-one)
+    good_to_extend files f n class name named open'
+    (subst (λ (z : List ℕ). IsGivenInterface files (extended_name files f z) ⊎ IsClosedFor files f z) (sym same)
+    bad-one)
 
 object_name : (files : List ClassFile) (class : Superclass) (name : List ℕ) → name_among files class ≡ Some name
     → is_object class ≡ true → name ≡ name_of_built_in builtins.Object
@@ -238,7 +280,7 @@ least_superclass files f bad.UnknownSuperclass n (unknown_class {name} e unknown
     (λ h. absurd (omega arith)) (λ h. absurd (omega arith))
     (λ h. absurd (omega arith)))
 least_superclass files f bad.NoClass n (not_extended class name e named closed) =
-    least_of files f bad.NoClass (no_class e (bad_to_extend files class name named closed))
+    least_of files f bad.NoClass (no_class e (bad_to_extend files f n class name named closed))
     (none_below files f 3 (λ _. has_superclass files f name e) (λ _. knows_superclass files f class name e named)
     (λ h. absurd (omega arith)) (λ h. absurd (omega arith))
     (λ h. absurd (omega arith)) (λ h. absurd (omega arith)))
@@ -299,9 +341,9 @@ none_below_interfaces : (files : List ClassFile) (f : ClassFile) (class : Superc
     → (kind : BadParent) → bad_parent_number kind < n → HasBadParent files f kind → ⊥
 none_below_interfaces files f class n are is =
     none_below files f n (λ _. has_superclass files f is.name is.named)
-    (λ _. knows_superclass files f class is.name is.named is.among)
-    (λ _. extends_class files f class is.name are is.named is.among is.extended)
-    (λ _. extends_object files f class is.name is.named is.among is.object)
+    (λ _. knows_superclass files f is.of_name is.name is.named is.among)
+    (λ _. extends_class files f is.of_name is.name are is.named is.among is.extended)
+    (λ _. extends_object files f is.of_name is.name is.named is.among is.object)
 
 pub least_interface : (files : List ClassFile) (f : ClassFile) (class : Superclass) (kind : BadParent) → AreNamed files
     → IsSuperclass files f class

@@ -4,6 +4,7 @@ pub mod NamesLemmas
 pub mod OwnNamesLemmas
 pub mod LinkingPlaceLemmas
 pub mod FilesTwiceLemmas
+pub mod LibraryLemmas
 pub mod LinkingInterfaceLemmas
 pub mod FoundNamesLemmas
 pub mod FilesParentLemmas
@@ -21,3 +22,5 @@ pub mod FamiliesLemmas
 pub mod ClassIdsLemmas
 pub mod BuiltInNamesLemmas
 pub mod UniquenessLemmas
+pub mod SubstitutesLemmas
+pub mod WithoutLibraryLemmas

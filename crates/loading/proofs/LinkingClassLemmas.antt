@@ -1,12 +1,11 @@
 -- Classes made of files and their parents.
-use Rattle.std.proofs.Common.{◌≡◌, ℕ, zero, suc, ◌<◌, inl, inr, true, false, List, [], ◌∷◌, ◌++◌, length}
-use Rattle.std.proofs.Common.{get_or, map, Option, Some, None, refl, sym, ap, subst, ◌∙◌, arith}
+use Rattle.std.proofs.Common.{◌≡◌, ℕ, zero, suc, ◌<◌, inl, inr, Bool, true, false, not, ◌&&◌, List, [], ◌∷◌, ◌++◌}
+use Rattle.std.proofs.Common.{length, get_or, map, Option, Some, None, refl, sym, ap, subst, ◌∙◌, arith}
 use Rattle.std.specs.List.{AllZip, Contains, slice_get, zip}
 use Rattle.std.specs.Option.{option_map}
 use Rattle.std.proofs.lemmas.List.{length-map}
 use Rattle.std.proofs.lemmas.List.Elements.{All-contains, Contains-append_cases}
 use Rattle.std.proofs.lemmas.Option.{slice_get-map, slice_get_within, slice_get-get_or}
-use Rattle.std.proofs.lemmas.Bool.{not-true}
 use Rattle.classfile.specs.ClassFile.{ClassFile}
 use Rattle.classfile.specs.Class.{IsNoArray}
 use Rattle.built_in.specs.declared.class_id.BuiltIn.{BuiltIn}
@@ -20,11 +19,14 @@ use Rattle.loading.specs.Names.{name_of, is_interface, Precedes}
 use Rattle.loading.specs.Families.{Family, file_of, file_in, passes, name_in, superclass_name, superclass_if}
 use Rattle.loading.specs.Families.{superclass_in, superclasses_in, interfaces_in, is_interface_in, parents_in}
 use Rattle.loading.specs.Families.{given_superclass}
-use Rattle.loading.specs.steps.Linking.{name_at, is_interface_at, name_among, may_be_extended, is_object, AreNamed}
+use Rattle.loading.specs.Library.{extended_name, superclass_meant}
+use Rattle.loading.specs.steps.Linking.{name_at, is_interface_at, name_among, is_object, AreNamed, IsSuperclass}
+use Rattle.loading.specs.steps.Linking.{meant, is_closed_for, is_interface_class}
 use Rattle.loading.specs.steps.Linking.{AreParents, AreLinked, file_of_class, parents_of_class, numbers_of_class}
 use Rattle.loading.specs.steps.Linking.{class_of_parts}
 use Rattle.loading.proofs.PlaceLemmas.{contains_at}
 use Rattle.loading.proofs.FilesParentLemmas.{file_at, named_given}
+use Rattle.loading.proofs.LibraryLemmas.{meant_named}
 use Rattle.loading.proofs.ZipLemmas.{pair_at}
 
 -- ---- files of classes
@@ -131,11 +133,34 @@ object_is (super.BuiltIn builtins.Object) e = refl
 object_is (super.BuiltIn class) e = absurd cc
 object_is (super.Given d) e = absurd cc
 
-superclass_kind : (files : List ClassFile) (s : Superclass) (d : ℕ) → s ≡ super.Given d → may_be_extended files s ≡ true
-    → is_interface_at files d ≡ false
-superclass_kind files s d is open' = not-true (is_interface_at files d) (ap (may_be_extended files) (sym is) ∙ open')
+superclass_kind : (files : List ClassFile) (f : ClassFile) (s : Superclass) (d : ℕ) → IsSuperclass files f s
+    → s ≡ super.Given d → is_interface_at files d ≡ false
+superclass_kind files f s d p is =
+    let other : is_interface_class files (meant files f p.of_name) ≡ false =
+    no_interface (is_closed_for files f p.of_name) (is_interface_class files (meant files f p.of_name)) p.extended in
+    ap (is_interface_class files) (sym is ∙ p.is) ∙ other
+  where
+    no_interface : (a b : Bool) → (not a && not b) ≡ true → b ≡ false
+    no_interface false false e = refl
+    no_interface false true e = absurd cc
+    no_interface true b e = absurd cc
 
-within_files : (files : List ClassFile) (d : ℕ) (name : List ℕ) → name_at files d ≡ Some name → d < length files
+interface_is : (files : List ClassFile) (f : ClassFile) (s : Superclass) → IsSuperclass files f s
+    → is_interface f ≡ true → s ≡ super.BuiltIn builtins.Object
+interface_is files f s p kind =
+    let object : p.of_name ≡ super.BuiltIn builtins.Object = object_is p.of_name (p.object kind) in
+    p.is ∙ ap (meant files f) object ∙ own
+  where
+    own : meant files f (super.BuiltIn builtins.Object) ≡ super.BuiltIn builtins.Object
+    own = rw kind refl
+
+superclass_among : (files : List ClassFile) (f : ClassFile) (s : Superclass) → AreNamed files → IsSuperclass files f s
+    → superclass_meant files f ≡ name_among files s
+superclass_among files f s named p =
+    ap (option_map (extended_name files f)) p.named ∙ sym (meant_named files f named p.of_name p.name p.among)
+    ∙ ap (name_among files) (sym p.is)
+
+pub within_files : (files : List ClassFile) (d : ℕ) (name : List ℕ) → name_at files d ≡ Some name → d < length files
 within_files files d name e = (let h = file_at files d name e in slice_get_within files d h.file h.at)
 
 interface_within : (files : List ClassFile) (d : ℕ) → is_interface_at files d ≡ true → d < length files
@@ -153,7 +178,8 @@ made_is_linked files family named m = record {
   plain = plain;
   superclass_names = λ k d within. (
       let p = m.parents k (get_or family k d) (slice_get-get_or family k d within) in
-      p.superclass.named ∙ sym p.superclass.among
+      ap (λ (z : List ClassFile). superclass_meant z (get_or family k d).file) m.same
+      ∙ superclass_among files (get_or family k d).file (get_or family k d).superclass named p.superclass
       ∙ sym (superclass_in_files files family m.same (get_or family k d).superclass));
   interface_names = λ k d within. (
       let p = m.parents k (get_or family k d) (slice_get-get_or family k d within) in
@@ -192,7 +218,7 @@ made_is_linked files family named m = record {
             let p = m.parents c x at-x in
             let own : Contains (given_superclass (Some x.superclass)) d = rw at-x at has in
             interface_in_files files family m.same d
-            ∙ superclass_kind files x.superclass d (superclass_is x.superclass d own) p.superclass.extended
+            ∙ superclass_kind files x.file x.superclass d p.superclass (superclass_is x.superclass d own)
 
     interfaces : (c i : ℕ) → Contains (interfaces_in family c) i → is_interface_in family i ≡ true
     interfaces c i has = by_case (slice_get family c) refl
@@ -215,7 +241,8 @@ made_is_linked files family named m = record {
         by_case (Some x) at-x =
             let p = m.parents c x at-x in
             let own : is_interface x.file ≡ true = rw at-x at kind in
-            ap superclass_if at-x ∙ ap (λ (s : Superclass). Some s) (object_is x.superclass (p.superclass.object own))
+            ap superclass_if at-x
+            ∙ ap (λ (s : Superclass). Some s) (interface_is files x.file x.superclass p.superclass own)
 
     count : length files ≡ length family
     count = ap length (sym m.same) ∙ length-map family file_of_class
@@ -230,7 +257,8 @@ made_is_linked files family named m = record {
         elim (Contains-append_cases x.0.interfaces (given_superclass (Some x.0.superclass)) d own) [
           | inl i ↦ interface_within files d
               (All-contains (λ j. is_interface_at files j ≡ true) x.0.interfaces d p.interfaces.each i)
-          | inr s ↦ within_files files d p.superclass.name
-              (ap (name_among files) (sym (superclass_is x.0.superclass d s)) ∙ p.superclass.among)
+          | inr s ↦ within_files files d (extended_name files x.0.file p.superclass.name)
+              (ap (name_among files) (sym (superclass_is x.0.superclass d s) ∙ p.superclass.is)
+              ∙ meant_named files x.0.file named p.superclass.of_name p.superclass.name p.superclass.among)
         ] in
         omega (arith, count)

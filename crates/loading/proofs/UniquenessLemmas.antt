@@ -4,6 +4,7 @@ use Rattle.std.proofs.Common.{option_map, refl, sym, ap, subst, ◌∙◌, arith
 use Rattle.std.specs.Prelude.{◌==◌, if◌then◌else◌, codes}
 use Rattle.std.proofs.lemmas.Option.{same_Some}
 use Rattle.std.proofs.lemmas.List.{append_cancel_right}
+use Rattle.classfile.specs.ClassFile.{ClassFile}
 use Rattle.built_in.specs.declared.class_id.ArrayType.{ArrayType}
 use Rattle.built_in.specs.declared.class_id.BuiltIn.{BuiltIn}
 use Rattle.built_in.specs.declared.class_id.ClassId.{ClassId}
@@ -12,7 +13,7 @@ use Rattle.built_in.specs.declared.class_id.ElementType.{ElementType}
 use Rattle.built_in.specs.declared.class_id.ElementType.TheVariants as element
 use Rattle.built_in.specs.ClassNames.{name_of_built_in}
 use Rattle.loading.specs.Families.{Family, IsFamily, name_in}
-use Rattle.loading.specs.ClassIds.{object_type, element_text, IsNamed, StandsFor}
+use Rattle.loading.specs.ClassIds.{object_type, element_text, IsNamed, StandsFor, meant_in, Denotes}
 use Rattle.loading.proofs.NamesLemmas.{precedes_not_same}
 use Rattle.loading.proofs.LinkingPlaceLemmas.{one_of_three}
 use Rattle.loading.proofs.BuiltInNamesLemmas.{same_built_in, built_in_is_no_array}
@@ -171,3 +172,17 @@ one_class family fits name None (Some y) none named = absurd (none y named)
 one_class family fits name (Some x) None named none = absurd (none x named)
 one_class family fits name (Some x) (Some y) named other =
     ap (λ (z : ClassId). Some z) (same_class family fits named other)
+
+-- what a name denotes in a class file is one class, or none
+pub one_denoted : (family : Family) → IsFamily family → (f : ClassFile) (name : List ℕ) (x y : ClassId)
+    → Denotes family f name (Some x) → Denotes family f name (Some y) → x ≡ y
+one_denoted family fits f name x y (a, named, is) (b, other, also) =
+    is ∙ ap (meant_in family f) (same_class family fits named other) ∙ sym also
+
+pub one_denotation : (family : Family) → IsFamily family → (f : ClassFile) (name : List ℕ) (a b : Option ClassId)
+    → Denotes family f name a → Denotes family f name b → a ≡ b
+one_denotation family fits f name None None none other = refl
+one_denotation family fits f name None (Some y) none (x, named, is) = absurd (none x named)
+one_denotation family fits f name (Some y) None (x, named, is) none = absurd (none x named)
+one_denotation family fits f name (Some x) (Some y) named other =
+    ap (λ (z : ClassId). Some z) (one_denoted family fits f name x y named other)

@@ -1,13 +1,17 @@
 -- The class that a name stands for (JVMS 4.4.1, 5.3).
-use Rattle.std.specs.Prelude.{◌≡◌, ℕ, ◌≤◌, List, [], ◌∷◌, ◌++◌, Option, Some, None, codes, replicate, option_map}
+use Rattle.std.specs.Prelude.{◌≡◌, ℕ, ◌≤◌, Bool, false, List, [], ◌∷◌, ◌++◌, Option, Some, None, codes, replicate}
+use Rattle.std.specs.Prelude.{option_map, if◌then◌else◌}
+use Rattle.std.specs.Str.{bytes_eq}
+use Rattle.classfile.specs.ClassFile.{ClassFile}
 use Rattle.built_in.specs.declared.class_id.ClassId.{ClassId}
 use Rattle.built_in.specs.declared.class_id.ClassId.TheVariants as class
 use Rattle.built_in.specs.declared.class_id.ArrayType.{ArrayType}
 use Rattle.built_in.specs.declared.class_id.ElementType.{ElementType}
 use Rattle.built_in.specs.declared.class_id.ElementType.TheVariants as element
 use Rattle.built_in.specs.declared.class_id.BuiltIn.{BuiltIn}
-use Rattle.built_in.specs.ClassNames.{name_of_built_in}
-use Rattle.loading.specs.Families.{Family, name_in}
+use Rattle.built_in.specs.ClassNames.{name_of_built_in, substitute_name}
+use Rattle.loading.specs.Families.{Family, name_in, substitute_in}
+use Rattle.loading.specs.Names.{name_of}
 
 -- a class in a descriptor
 abbrev pub object_type : List ℕ → List ℕ
@@ -35,7 +39,43 @@ pub data IsNamed (family : Family) (name : List ℕ) : ClassId → Type 0 where
       → element_text family a.element ≡ Some text
       → name ≡ replicate a.dimensions 91 ++ text → IsNamed family name (class.Array a)
 
--- A name stands for this class, or for none: then it is neither given nor built in, nor an array of such.
+-- A name is that of this class, or of none: then it is neither given nor built in, nor an array of such.
 abbrev pub StandsFor : Family → List ℕ → Option ClassId → Type 0
 StandsFor family name None = (x : ClassId) → IsNamed family name x → ⊥
 StandsFor family name (Some x) = IsNamed family name x
+
+-- ---- substitutes
+
+abbrev pub given_or : ClassId → Option ℕ → ClassId
+given_or x None = x
+given_or x (Some d) = class.Given d
+
+abbrev pub given_element_or : ElementType → Option ℕ → ElementType
+given_element_or e None = e
+given_element_or e (Some d) = element.Given d
+
+abbrev pub element_replaced : Family → ElementType → ElementType
+element_replaced family (element.BuiltIn b) = given_element_or (element.BuiltIn b) (substitute_in family b)
+element_replaced family e = e
+
+-- the substitute in the place of a built-in class, or of an array's element class
+abbrev pub replaced : Family → ClassId → ClassId
+replaced family (class.Given c) = class.Given c
+replaced family (class.BuiltIn b) = given_or (class.BuiltIn b) (substitute_in family b)
+replaced family (class.Array a) =
+    class.Array (record { dimensions = a.dimensions; element = element_replaced family a.element })
+
+-- whether this is the class file of a class's substitute
+abbrev pub is_file_of_substitute : ClassFile → ClassId → Bool
+is_file_of_substitute f (class.BuiltIn b) = bytes_eq (name_of f) (substitute_name b)
+is_file_of_substitute f (class.Given c) = false
+is_file_of_substitute f (class.Array a) = false
+
+-- The class that the one of a name stands for in a class file: its substitute, but in that one's own file.
+abbrev pub meant_in : Family → ClassFile → ClassId → ClassId
+meant_in family f x = if is_file_of_substitute f x then x else replaced family x
+
+-- What a name denotes in a class file (JVMS 5.4.3.1): a class, or none where no class has the name.
+abbrev pub Denotes : Family → ClassFile → List ℕ → Option ClassId → Type 0
+Denotes family f name None = StandsFor family name None
+Denotes family f name (Some y) = (x : ClassId) × IsNamed family name x × (y ≡ meant_in family f x)

@@ -11,7 +11,8 @@ use Rattle.built_in.specs.declared.class_id.BuiltIn.TheVariants as builtins
 use Rattle.loading.specs.declared.given.GivenClass.{GivenClass}
 use Rattle.loading.specs.declared.given.Superclass.{Superclass}
 use Rattle.loading.specs.declared.given.Superclass.TheVariants as super
-use Rattle.loading.specs.Names.{name_of, superclass_of, interfaces_of, is_interface, Precedes}
+use Rattle.loading.specs.Names.{name_of, interfaces_of, is_interface, Precedes}
+use Rattle.loading.specs.Library.{superclass_meant, substitute_among}
 
 -- given classes by their numbers
 abbrev pub Family : Type 0
@@ -74,6 +75,10 @@ abbrev pub superclass_name : Family → Superclass → Option (List ℕ)
 superclass_name family (super.Given d) = name_in family d
 superclass_name family (super.BuiltIn class) = Some (name_of_built_in class)
 
+-- the class files, by number
+abbrev pub files_in : Family → List ClassFile
+files_in family = map (λ (c : GivenClass). c.file) family
+
 -- Numbers are those of classes, and go up with the names; each class's parents are those that its file names.
 pub record IsFamily (family : Family) : Type 0 where
   pub ascending : (i j : ℕ) (a b : List ℕ) → i < j → name_in family i ≡ Some a → name_in family j ≡ Some b
@@ -81,7 +86,8 @@ pub record IsFamily (family : Family) : Type 0 where
   -- none has the name of a built-in class, or one that begins as those of array classes do (JVMS 4.1, this_class)
   pub free : (c : ℕ) (b : BuiltIn) → name_in family c ≢ Some (name_of_built_in b)
   pub plain : (c : ℕ) (name : List ℕ) → name_in family c ≡ Some name → IsNoArray name
-  pub superclass_names : All (λ (c : GivenClass). superclass_of c.file ≡ superclass_name family c.superclass) family
+  pub superclass_names : All
+      (λ (c : GivenClass). superclass_meant (files_in family) c.file ≡ superclass_name family c.superclass) family
   pub interface_names : All (λ (c : GivenClass). map Some (interfaces_of c.file) ≡ map (name_in family) c.interfaces)
       family
   pub acyclic : (c : ℕ) → ¬ IsAncestor family c c
@@ -95,7 +101,7 @@ pub record IsFamily (family : Family) : Type 0 where
 pub record IsFamilyOf (files : List ClassFile) (family : Family) : Type 0 where
   pub fits : IsFamily family
   pub count : length family ≡ length files
-  pub members : (f : ClassFile) → Contains files f ↔ Contains (map (λ (c : GivenClass). c.file) family) f
+  pub members : (f : ClassFile) → Contains files f ↔ Contains (files_in family) f
 
 -- An order of all given classes in which each stands after its parents.
 pub record IsParentsFirst (family : Family) (order : List ℕ) : Type 0 where
@@ -106,3 +112,7 @@ pub record IsParentsFirst (family : Family) (order : List ℕ) : Type 0 where
 -- each parent is one of the classes
 abbrev pub AreParentsWithin : Family → Type 0
 AreParentsWithin family = (c d : ℕ) → Contains (parents_in family c) d → d < length family
+
+-- the number of a built-in class's substitute: none where the library is not there
+abbrev pub substitute_in : Family → BuiltIn → Option ℕ
+substitute_in family b = substitute_among (files_in family) b

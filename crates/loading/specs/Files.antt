@@ -11,6 +11,7 @@ use Rattle.loading.specs.declared.fault.BadParent.TheVariants as bad
 use Rattle.loading.specs.declared.fault.LinkFault.{LinkFault}
 use Rattle.loading.specs.declared.fault.LinkFault.TheVariants as faults
 use Rattle.loading.specs.Names.{name_of, superclass_of, interfaces_of, is_interface, Precedes}
+use Rattle.loading.specs.Library.{is_own, extended_name, superclass_meant}
 
 -- one of the files has this name
 abbrev pub HasFile : List ClassFile → List ℕ → ClassFile → Type 0
@@ -46,6 +47,10 @@ abbrev pub IsClosed : List ℕ → Type 0
 IsClosed name = (name ≡ name_of_built_in builtins.String) ⊎ (name ≡ name_of_built_in builtins.System)
     ⊎ (name ≡ name_of_built_in builtins.PrintStream)
 
+-- nor may a class extend it, but its own substitute
+abbrev pub IsClosedFor : List ClassFile → ClassFile → List ℕ → Type 0
+IsClosedFor files f name = IsClosed name × (is_own files f name ≡ false)
+
 abbrev pub IsGivenInterface : List ClassFile → List ℕ → Type 0
 IsGivenInterface files name = (f : ClassFile) × HasFile files name f × (is_interface f ≡ true)
 
@@ -56,8 +61,8 @@ pub data HasBadParent (files : List ClassFile) (f : ClassFile) : BadParent → T
   no_superclass : superclass_of f ≡ None → HasBadParent files f bad.NoSuperclass
   unknown_superclass : {name : List ℕ} → superclass_of f ≡ Some name → IsUnknown files name
       → HasBadParent files f bad.UnknownSuperclass
-  no_class : {name : List ℕ} → superclass_of f ≡ Some name → IsGivenInterface files name ⊎ IsClosed name
-      → HasBadParent files f bad.NoClass
+  no_class : {name : List ℕ} → superclass_of f ≡ Some name
+      → IsGivenInterface files (extended_name files f name) ⊎ IsClosedFor files f name → HasBadParent files f bad.NoClass
   not_object : {name : List ℕ} → is_interface f ≡ true → superclass_of f ≡ Some name
       → name ≢ name_of_built_in builtins.Object
       → HasBadParent files f bad.NotObject
@@ -88,7 +93,7 @@ HasBadParents files name = (f : ClassFile) × HasFile files name f × (kind : Ba
 -- the class of one name has the one of another as its superclass or as a direct superinterface
 abbrev pub IsParent : List ClassFile → List ℕ → List ℕ → Type 0
 IsParent files name parent = (f : ClassFile) × HasFile files name f
-    × ((superclass_of f ≡ Some parent) ⊎ Contains (interfaces_of f) parent)
+    × ((superclass_meant files f ≡ Some parent) ⊎ Contains (interfaces_of f) parent)
 
 pub data IsAncestorName (files : List ClassFile) (name : List ℕ) : List ℕ → Type 0 where
   parent : {above : List ℕ} → IsParent files name above → IsAncestorName files name above

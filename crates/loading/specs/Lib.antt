@@ -1,4 +1,5 @@
 pub mod Names
+pub mod Library
 pub mod Files
 pub mod Families
 pub mod ClassIds

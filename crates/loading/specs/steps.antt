@@ -1,4 +1,3 @@
-pub mod BuiltIns
 pub mod Linking
 pub mod FoundNames
 pub mod InterfaceFaults

@@ -4,9 +4,9 @@ ghost use Rattle.std.specs.Prelude.{◌≡◌, ℕ, ◌<◌, ◌≤◌, ◌^◌,
 ghost use Rattle.std.specs.List.{All, Contains};
 ghost use Rattle.graph.specs.Rows.{successors_of};
 ghost use Rattle.loading.specs.declared.fault.LinkFault.TheVariants.{Memory};
-ghost use Rattle.loading.specs.Families.{parents_in, IsFamily, IsParentsFirst};
+ghost use Rattle.loading.specs.Families.{files_in, parents_in, IsFamily, IsParentsFirst};
 ghost use Rattle.loading.specs.steps.Linking.{numbers_of_class, AreLinked, IsGraphOf, IsLeastClassOnCycle};
-ghost use Rattle.loading.specs.steps.Linking.{IsCycleFault};
+ghost use Rattle.loading.specs.steps.Linking.{AreSubstitutes, IsCycleFault};
 
 use crate::family::Family;
 use crate::fault::LinkFault;
@@ -80,14 +80,23 @@ fn add_numbers(vertices: &[usize], numbers: &mut Vec<u32>) -> Result<(), AllocEr
 }
 
 /// The family of classes with their parents, or the least class that is its own ancestor.
-pub(crate) fn arranged(alloc: Global, classes: Vec<GivenClass>) -> Result<Family, LinkFault>
+pub(crate) fn arranged(
+    alloc: Global,
+    classes: Vec<GivenClass>,
+    substitutes: ClassNumbers,
+) -> Result<Family, LinkFault>
     requires few { length classes.items ≤ 65535 }
     requires linked { AreLinked classes.items }
+    requires substitutes { AreSubstitutes (files_in classes.items) substitutes }
     ensures ok { IfOk result (λ family. (family ≡ classes.items) × IsFamily family) }
     ensures fault { IfErr result (λ x. (x ≡ Memory) ⊎ IsCycleFault classes.items x) }
 {
     match order_of(alloc, classes.as_slice()) {
-        Ok(order) => Ok(Family { classes, order }),
+        Ok(order) => Ok(Family {
+            classes,
+            order,
+            substitutes,
+        }),
         Err(fault) => Err(fault),
     }
 }

@@ -6,6 +6,7 @@ mod cycle;
 pub mod family;
 pub mod fault;
 pub mod given;
+mod library;
 mod linking;
 pub mod names;
 mod naming;
@@ -13,5 +14,6 @@ mod parents;
 mod sorting;
 pub mod uniqueness;
 
+pub use library::without_library;
 pub use linking::{family_of, links_or_fails};
-pub use naming::class_named;
+pub use naming::{class_in, class_named};

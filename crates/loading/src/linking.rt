@@ -7,12 +7,13 @@ ghost use Rattle.loading.specs.declared.fault.LinkFault.{LinkFault as Fault};
 ghost use Rattle.loading.specs.declared.fault.LinkFault.TheVariants.{Memory};
 ghost use Rattle.loading.specs.Families.{IsFamilyOf};
 ghost use Rattle.loading.specs.Files.{WithinLimit, LinkFails, Links};
-ghost use Rattle.loading.specs.steps.Linking.{AreSorted, AreNamed, AreParents, class_of_parts};
+ghost use Rattle.loading.specs.steps.Linking.{AreSorted, AreNamed, AreParents, AreSubstitutes, class_of_parts};
 
 use crate::cycle::arranged;
 use crate::family::Family;
 use crate::fault::LinkFault;
 use crate::given::GivenClass;
+use crate::library::substitutes_of;
 use crate::names::copy_of_name;
 use crate::parents::{Parents, parents_of};
 use crate::sorting::{first_taken, first_twice, sort_by_name};
@@ -41,15 +42,20 @@ fn check_names(alloc: Global, files: &[ClassFile]) -> Result<(), LinkFault>
 }
 
 /// The parents of each class, or what is wrong with the first that has a bad one.
-fn all_parents(alloc: Global, files: &[ClassFile]) -> Result<Vec<Parents>, LinkFault>
+fn all_parents(
+    alloc: Global,
+    files: &[ClassFile],
+    substitutes: &[u32],
+) -> Result<Vec<Parents>, LinkFault>
     requires few { WithinLimit files.now }
     requires named { AreNamed files.now }
+    requires substitutes { AreSubstitutes files.now substitutes.now }
     ensures ok { IfOk result (λ parents. AllZip (AreParents files.now) files.now parents.items) }
     ensures fault { IfErr result (λ x. (x ≡ Memory) ⊎ LinkFails files.now x) }
 {
     let mut parents = Vec::with_capacity(alloc, files.len())?;
     for file in files {
-        parents.push(parents_of(alloc, files, file)?)?;
+        parents.push(parents_of(alloc, files, substitutes, file)?)?;
     }
     Ok(parents)
 }
@@ -82,9 +88,10 @@ fn family_of_sorted(alloc: Global, files: Vec<ClassFile>) -> Result<Family, Link
     ensures fault { IfErr result (λ x. (x ≡ Memory) ⊎ LinkFails files.items x) }
 {
     check_names(alloc, files.as_slice())?;
-    let parents = all_parents(alloc, files.as_slice())?;
+    let substitutes = substitutes_of(alloc, files.as_slice())?;
+    let parents = all_parents(alloc, files.as_slice(), substitutes.as_slice())?;
     let classes = joined(alloc, files, parents)?;
-    arranged(alloc, classes)
+    arranged(alloc, classes, substitutes)
 }
 
 /// The family of some class files: numbers follow the bytes of names.

@@ -6,13 +6,16 @@ ghost use Rattle.built_in.specs.ClassNames.{name_of_built_in};
 ghost use Rattle.built_in.specs.declared.class_id.BuiltIn.{BuiltIn as Class};
 ghost use Rattle.built_in.specs.declared.class_id.ElementType.{ElementType as Element};
 ghost use Rattle.built_in.specs.declared.class_id.ArrayType.{ArrayType as Array};
-ghost use Rattle.loading.specs.ClassIds.{object_type, element_text, IsNamed, StandsFor};
+ghost use Rattle.loading.specs.ClassIds.{object_type, element_text, IsNamed, StandsFor, Denotes};
+ghost use Rattle.loading.specs.ClassIds.{element_replaced, is_file_of_substitute as is_own_file, meant_in, replaced};
 ghost use Rattle.loading.specs.Families.{name_in, superclass_name};
 ghost use Rattle.loading.specs.steps.BaseTypes.{IsBaseType, IsNoBaseType};
 
 use crate::family::Family;
 use crate::given::Superclass;
+use crate::library::is_file_of_substitute;
 use built_in::class_id::{ArrayType, BuiltIn, ClassId, ElementType};
+use classfile::ClassFile;
 
 /// The element type that a letter alone stands for.
 fn base_type(letter: u8) -> Option<ElementType>
@@ -120,4 +123,70 @@ pub fn class_named(family: &Family, name: &[u8]) -> Option<ClassId>
         Some(Superclass::BuiltIn(class)) => Some(ClassId::BuiltIn(class)),
         None => array_named(family, name).map(ClassId::Array),
     }
+}
+
+/// The substitute of an array's element class, if it is a built-in one that has one.
+fn element_replaced(family: &Family, element: ElementType) -> ElementType
+    ensures { result ≡ element_replaced family.now element }
+{
+    let ElementType::BuiltIn(class) = element else {
+        return element;
+    };
+    match family.substitute(class) {
+        Some(number) => ElementType::Given(number),
+        None => element,
+    }
+}
+
+impl Family {
+    /// The substitute in the place of a built-in class, or of an array's element class. Any other class itself.
+    pub fn replaced(&self, class: ClassId) -> ClassId
+        ensures { result ≡ replaced self.now class }
+    {
+        match class {
+            ClassId::Given(_) => class,
+            ClassId::BuiltIn(built_in) => match self.substitute(built_in) {
+                Some(number) => ClassId::Given(number),
+                None => class,
+            },
+            ClassId::Array(
+                ArrayType {
+                    dimensions,
+                    element,
+                },
+            ) => ClassId::Array(ArrayType {
+                dimensions,
+                element: element_replaced(self, element),
+            }),
+        }
+    }
+
+    /// The class that the one of a name stands for in a class file: its substitute, but in that one's own file.
+    fn meant_in(&self, file: &ClassFile, class: ClassId) -> ClassId
+        ensures { result ≡ meant_in self.now file.now class }
+    {
+        if is_own_file(file, class) {
+            return class;
+        }
+        self.replaced(class)
+    }
+}
+
+/// Whether this is the class file of a class's substitute.
+fn is_own_file(file: &ClassFile, class: ClassId) -> bool
+    ensures { result ≡ is_own_file file.now class }
+{
+    match class {
+        ClassId::BuiltIn(class) => is_file_of_substitute(file, class),
+        ClassId::Given(_) | ClassId::Array(_) => false,
+    }
+}
+
+/// The class that a name denotes in a class file: where the library is there a built-in class's name is that of its
+/// substitute, but in the substitute's own file.
+pub fn class_in(family: &Family, file: &ClassFile, name: &[u8]) -> Option<ClassId>
+    ensures { Denotes family.now file.now name.now result }
+{
+    let class = class_named(family, name)?;
+    Some(family.meant_in(file, class))
 }

@@ -1,12 +1,17 @@
 //! The parents of a class by number, or what is wrong with them (JVMS 5.3.5).
 
-ghost use Rattle.std.specs.Prelude.{◌≡◌, ◌⊎◌, true, Some, map, slice_index_or, IfOk, IfErr, MatchOption, MatchResult};
+ghost use Rattle.std.specs.Prelude.{◌≡◌, ◌⊎◌, ◌||◌, ◌&&◌, not, true, Some, map, slice_index_or, IfOk, IfErr, MatchOption};
+ghost use Rattle.std.specs.Prelude.{List, MatchResult};
+ghost use Rattle.std.specs.Str.{bytes_eq};
+ghost use Rattle.built_in.specs.ClassNames.{substitute_name};
+ghost use Rattle.classfile.specs.ClassFile.{ClassFile as File};
 ghost use Rattle.loading.specs.declared.fault.LinkFault.TheVariants.{Memory};
 ghost use Rattle.loading.specs.declared.parents.InterfaceFault.TheVariants as interface_fault;
-ghost use Rattle.loading.specs.Names.{class_name_at, text_at, interfaces_of};
-ghost use Rattle.loading.specs.Files.{WithinLimit, IsGiven, IsUnknown, HasLeastBadParent};
+ghost use Rattle.loading.specs.Names.{class_name_at, text_at, interfaces_of, is_interface, name_of};
+ghost use Rattle.loading.specs.Files.{WithinLimit, IsUnknown, HasLeastBadParent};
 ghost use Rattle.loading.specs.steps.Linking.{name_at, is_interface_at, name_among, may_be_extended, is_object, Ascend};
-ghost use Rattle.loading.specs.steps.Linking.{AreNamed};
+ghost use Rattle.loading.specs.steps.Linking.{AreNamed, AreSubstitutes, meant, is_closed, is_closed_for};
+ghost use Rattle.loading.specs.steps.Linking.{is_interface_class};
 ghost use Rattle.loading.specs.steps.Linking.{IsSuperclass, HasBadSuperclass, AreInterfaces};
 ghost use Rattle.loading.specs.steps.Linking.{AreParents, IsParentFault};
 ghost use Rattle.loading.specs.steps.FoundNames.{name_index, AreFound, IsNoInterface, AreTheirNumbers};
@@ -14,7 +19,8 @@ ghost use Rattle.loading.specs.steps.InterfaceFaults.{FailsFor, FailsAmong, IsLe
 
 use crate::fault::{BadParent, LinkFault};
 use crate::given::{ClassNumbers, Superclass};
-use crate::names::{class_name_at, copy_of_name, is_interface, name_of};
+use crate::library::{is_file_of_substitute, is_own, number_among, substitute};
+use crate::names::{class_name_at, copy_of_name, is_interface};
 use built_in::class_id::BuiltIn;
 use classfile::{ClassFile, Constant};
 use std::alloc::{AllocError, AllocFailed, Global};
@@ -50,18 +56,6 @@ impl<T: Drop> From<AllocFailed<T>> for InterfaceFault {
     }
 }
 
-/// The number of the file of a name.
-fn number_among(files: &[ClassFile], name: &[u8]) -> Option<u32>
-    requires few { WithinLimit files.now }
-    requires ascending { Ascend files.now }
-    ensures { MatchOption result (¬ IsGiven files.now name.now) (λ c. name_at files.now c ≡ Some name.now) }
-{
-    match files.binary_search_by(|file| name_of(file).cmp(&name)) {
-        Ok(number) => Some(number as u32),
-        Err(_) => None,
-    }
-}
-
 /// The class of a name: a given one, or one that is built in.
 fn class_among(files: &[ClassFile], name: &[u8]) -> Option<Superclass>
     requires few { WithinLimit files.now }
@@ -87,15 +81,93 @@ fn is_interface_at(files: &[ClassFile], number: u32) -> bool
     }
 }
 
-/// Whether a class may extend this one.
-fn may_be_extended(files: &[ClassFile], class: Superclass) -> bool
-    ensures { result ≡ may_be_extended files.now class }
+/// The class that one of this name is, as the superclass of a file: its substitute, if it has one, but in that one's
+/// own file and for an interface.
+fn meant(substitutes: &[u32], file: &ClassFile, class: Superclass) -> Superclass
+    ensures { (files : List File) → AreSubstitutes files substitutes.now → result ≡ meant files file.now class }
 {
     match class {
-        Superclass::Given(number) => !is_interface_at(files, number),
-        Superclass::BuiltIn(BuiltIn::String | BuiltIn::System | BuiltIn::PrintStream) => false,
-        Superclass::BuiltIn(_) => true,
+        Superclass::Given(_) => class,
+        Superclass::BuiltIn(class) => built_in_meant(substitutes, file, class),
     }
+}
+
+/// The same of a built-in class.
+fn built_in_meant(substitutes: &[u32], file: &ClassFile, class: BuiltIn) -> Superclass
+    ensures { (files : List File) → AreSubstitutes files substitutes.now
+        → result ≡ meant files file.now (Superclass.BuiltIn class) }
+{
+    if means_itself(file, class) {
+        return Superclass::BuiltIn(class);
+    }
+    match substitute(substitutes, class) {
+        Some(number) => Superclass::Given(number),
+        None => Superclass::BuiltIn(class),
+    }
+}
+
+/// Whether a file is of an interface, or of a class's substitute.
+fn means_itself(file: &ClassFile, class: BuiltIn) -> bool
+    ensures { result ≡ (is_interface file.now || bytes_eq (name_of file.now) (substitute_name class)) }
+{
+    is_interface(file) || is_file_of_substitute(file, class)
+}
+
+/// Whether a class is closed to a file as its subclass.
+fn is_closed_for(substitutes: &[u32], file: &ClassFile, class: Superclass) -> bool
+    ensures { (files : List File) → AreSubstitutes files substitutes.now → result ≡ is_closed_for files file.now class }
+{
+    match class {
+        Superclass::Given(_) => false,
+        Superclass::BuiltIn(class) => is_closed_to(substitutes, file, class),
+    }
+}
+
+/// The same of a built-in class.
+fn is_closed_to(substitutes: &[u32], file: &ClassFile, class: BuiltIn) -> bool
+    ensures { (files : List File) → AreSubstitutes files substitutes.now
+        → result ≡ is_closed_for files file.now (Superclass.BuiltIn class) }
+{
+    if !is_closed(class) {
+        return false;
+    }
+    !is_own(substitutes, file, class)
+}
+
+/// Whether a built-in class has no subclasses.
+fn is_closed(class: BuiltIn) -> bool
+    ensures { result ≡ is_closed class }
+{
+    matches!(
+        class,
+        BuiltIn::String | BuiltIn::System | BuiltIn::PrintStream
+    )
+}
+
+/// Whether a class is a given interface.
+fn is_interface_class(files: &[ClassFile], class: Superclass) -> bool
+    ensures { result ≡ is_interface_class files.now class }
+{
+    match class {
+        Superclass::Given(number) => is_interface_at(files, number),
+        Superclass::BuiltIn(_) => false,
+    }
+}
+
+/// Whether a class of this name may be the superclass of a file.
+fn may_be_extended(
+    files: &[ClassFile],
+    substitutes: &[u32],
+    file: &ClassFile,
+    class: Superclass,
+) -> bool
+    requires { AreSubstitutes files.now substitutes.now }
+    ensures { result ≡ may_be_extended files.now file.now class }
+{
+    if is_closed_for(substitutes, file, class) {
+        return false;
+    }
+    !is_interface_class(files, meant(substitutes, file, class))
 }
 
 /// Whether it is `Object`.
@@ -105,10 +177,22 @@ fn is_object(class: Superclass) -> bool
     matches!(class, Superclass::BuiltIn(BuiltIn::Object))
 }
 
+/// Whether a file is of an interface, which has another superclass than `Object`.
+fn extends_no_object(file: &ClassFile, class: Superclass) -> bool
+    ensures { result ≡ (is_interface file.now && not (is_object class)) }
+{
+    is_interface(file) && !is_object(class)
+}
+
 /// The superclass of a class, or the first that is wrong with it.
-fn superclass_of(files: &[ClassFile], file: &ClassFile) -> Result<Superclass, BadParent>
+fn superclass_of(
+    files: &[ClassFile],
+    substitutes: &[u32],
+    file: &ClassFile,
+) -> Result<Superclass, BadParent>
     requires few { WithinLimit files.now }
     requires ascending { Ascend files.now }
+    requires substitutes { AreSubstitutes files.now substitutes.now }
     ensures { MatchResult result (IsSuperclass files.now file.now) (HasBadSuperclass files.now file.now) }
 {
     let index = file.super_class();
@@ -118,13 +202,13 @@ fn superclass_of(files: &[ClassFile], file: &ClassFile) -> Result<Superclass, Ba
     let Some(class) = class_among(files, class_name_at(file, index)) else {
         return Err(BadParent::UnknownSuperclass);
     };
-    if !may_be_extended(files, class) {
+    if !may_be_extended(files, substitutes, file, class) {
         return Err(BadParent::NoClass);
     }
-    if is_interface(file) && !is_object(class) {
+    if extends_no_object(file, class) {
         return Err(BadParent::NotObject);
     }
-    Ok(class)
+    Ok(meant(substitutes, file, class))
 }
 
 /// The index of the name of a Class, or 0.
@@ -287,14 +371,16 @@ fn interface_fault(
 pub(crate) fn parents_of(
     alloc: Global,
     files: &[ClassFile],
+    substitutes: &[u32],
     file: &ClassFile,
 ) -> Result<Parents, LinkFault>
     requires few { WithinLimit files.now }
     requires named { AreNamed files.now }
+    requires substitutes { AreSubstitutes files.now substitutes.now }
     ensures ok { IfOk result (AreParents files.now file.now) }
     ensures fault { IfErr result (λ x. (x ≡ Memory) ⊎ IsParentFault files.now file.now x) }
 {
-    let superclass = match superclass_of(files, file) {
+    let superclass = match superclass_of(files, substitutes, file) {
         Ok(superclass) => superclass,
         Err(kind) => return Err(parent_fault(alloc, files, file, kind)),
     };

@@ -51,7 +51,8 @@ use Rattle.machine.specs.StoredKinds.{top_stored, extra_places}
 use Rattle.machine.specs.RowParts.{halts, needing, goes_on, push, drops, raises, if_usable}
 use Rattle.machine.specs.ObjectParts.{slot_in, size_in, set_named, on_name, class_of_nameless, ask_class_of}
 use Rattle.machine.specs.ObjectParts.{without_object, with_object}
-use Rattle.machine.specs.Objects.{new_object, is_of, ask_is_of, cast_row, check_cast, int_of_boolean, instance_of}
+use Rattle.machine.specs.Objects.{new_object, is_of, is_enum_object, ask_is_of, cast_row, check_cast, int_of_boolean}
+use Rattle.machine.specs.Objects.{instance_of}
 use Rattle.machine.specs.Objects.{throw_of, throw_row, is_holder, on_holder, get_field, put_field}
 use Rattle.machine.specs.Arrays.{unless_trapped, array_type, served_type, slot_at, size_of, make_array, array_length}
 use Rattle.machine.specs.Arrays.{at_element, load_element, is_checked, if_held, can_hold, check_store, store_element}
@@ -298,7 +299,7 @@ module _ (Is : Row → Type 0) (HasRoom : Frame → Type 0) (up : GoesUp Is HasR
   enum_any : (P : Tables) (v : Value) (go : Name → Row) → ((x : Name) → Is (go x)) → Is (on_enum P v go)
   enum_any P v go on =
       object_any v _ (λ x.
-      up.asked x _ (λ o. either_any (is_of P (BuiltIn builtins.Enum) o) (go x) _ (on x) (up.halted _)))
+      up.asked x _ (λ o. either_any (is_enum_object P o) (go x) _ (on x) (up.halted _)))
 
   replaced_any : (v : Value) (f : Frame) → Is (replaced v f)
   replaced_any v f = pushed_any v (with_operands f (rest f.operands))

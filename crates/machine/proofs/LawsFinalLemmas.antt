@@ -231,7 +231,7 @@ pub record IsFieldConstant (family : Family) (f : ClassFile) (constant : Constan
   pub class : List ℕ
   pub key : NameAndType
   pub result : Result Field Unresolved
-  pub finds : FindsField family class key result
+  pub finds : FindsField family f class key result
   pub kind_is : field_kind key.descriptor ≡ kind
   pub target_is : targeted family result ≡ target
 
@@ -336,15 +336,16 @@ found_field c j e (ResolvesField.found {d = d} {k = k} search) =
     let class : d ≡ c = cc in
     let place : k ≡ j = cc in
     search_ends c j (rw (class, place) refl) search
-found_field c j e (ResolvesField.missing search) = absurd cc
+found_field c j e (ResolvesField.missing search no) = absurd cc
+found_field c j e (ResolvesField.substitute_out search is out) = absurd cc
 found_field c j e (ResolvesField.out h) = absurd cc
 found_field c j e (ResolvesField.no_out h) = absurd cc
 found_field c j e (ResolvesField.built_in h) = absurd cc
 found_field c j e ResolvesField.array = absurd cc
 
-pub finds_field : {family : Family} {name : List ℕ} {key : NameAndType} {r : Result Field Unresolved} (c j : ℕ)
-    → r ≡ Ok (fields.Given c j)
-    → FindsField family name key r → field_in family key c ≡ Some j
+pub finds_field : {family : Family} {f : ClassFile} {name : List ℕ} {key : NameAndType}
+    {r : Result Field Unresolved} (c j : ℕ) → r ≡ Ok (fields.Given c j)
+    → FindsField family f name key r → field_in family key c ≡ Some j
 finds_field c j e (FindsField.unknown h) = absurd cc
 finds_field c j e (FindsField.missing h g) = absurd cc
 finds_field c j e (FindsField.found {m = m} h resolves) = let same : m ≡ fields.Given c j = cc in

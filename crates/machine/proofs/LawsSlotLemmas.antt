@@ -21,7 +21,7 @@ use Rattle.hierarchy.specs.declared.member.Field.TheVariants as fields
 use Rattle.hierarchy.specs.declared.member.Unresolved.{Unresolved}
 use Rattle.hierarchy.specs.declared.member.Unresolved.TheVariants as unresolved
 use Rattle.hierarchy.specs.MemberLookup.{is_named, field_of, field_in}
-use Rattle.hierarchy.specs.Subtypes.{is_below}
+use Rattle.hierarchy.specs.Subtypes.{has_slots_of}
 use Rattle.program.specs.declared.class.Implementation.{Implementation}
 use Rattle.program.specs.declared.class.Implementation.TheVariants as implementations
 use Rattle.program.specs.declared.runtime_constant.RuntimeConstant.{RuntimeConstant}
@@ -298,7 +298,7 @@ declared_in family key c j e = by (file_in family c) refl e
 
 pub slots_past : (P : Tables) → IsProgram P → (d m place : ℕ) (field : InstanceField)
     → operation_at P d m place ≡ Some (OnObject (objects.PutField field)) → (c : ℕ)
-    → has_fields_of P.family c field.class ≡ true → is_below P.family (Given c) (BuiltIn builtins.Enum) ≡ true
+    → has_fields_of P.family c field.class ≡ true → has_slots_of P.family builtins.Enum (Given c) ≡ true
     → 2 ≤ field.slot
 slots_past P is d m place field e c has below =
     let put = put_at field P d m place e in

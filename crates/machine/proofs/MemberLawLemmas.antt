@@ -4,7 +4,6 @@ use Rattle.std.proofs.Common.{ℕ, Bool, true, false, cond, List, Option, Some, 
 use Rattle.std.specs.List.{AllByRecursion}
 use Rattle.std.specs.Option.{IfSome}
 use Rattle.built_in.specs.declared.class_id.ArrayType.{ArrayType}
-use Rattle.built_in.specs.declared.class_id.BuiltIn.TheVariants.{Enum}
 use Rattle.built_in.specs.declared.class_id.ClassId.{ClassId}
 use Rattle.built_in.specs.declared.class_id.ClassId.TheVariants.{Given, BuiltIn, Array}
 use Rattle.built_in.specs.declared.method.BuiltInMethod.{BuiltInMethod}
@@ -27,7 +26,7 @@ use Rattle.frame_instructions.specs.OperandKinds.{top_as}
 use Rattle.frame_instructions.proofs.LawsFrameLemmas.{top_has, rest_has, as_kind_has}
 use Rattle.machine.specs.RowParts.{halts, drops}
 use Rattle.machine.specs.ObjectParts.{slot_in, look_into_slot, set_named, look_into_named}
-use Rattle.machine.specs.Objects.{is_of}
+use Rattle.machine.specs.Objects.{is_enum_object}
 use Rattle.machine.specs.Members.{on_enum, name_once, new_enum, replaced, or_slot, enum_part, copy_of, clone_if_array}
 use Rattle.machine.specs.Members.{member_row}
 use Rattle.machine.specs.Linked.{program_of}
@@ -51,10 +50,10 @@ module _ (P : Tables) {N : Name → Type 0} {Q : Value → Type 0} (kept : IsKep
   on_enum_suits v go hv on = on_object_suits P kept own v asked hv asked_suits
     where
       asked : Name → Row
-      asked x = AskClass x (λ o. cond (is_of P (BuiltIn Enum) o) (go x) (halts Fault))
+      asked x = AskClass x (λ o. cond (is_enum_object P o) (go x) (halts Fault))
 
       asked_suits : (x : Name) → N x → Suits (asked x)
-      asked_suits x hx = (hx, λ o. either (is_of P (BuiltIn Enum) o) (go x) (halts Fault) (on x hx) (halted Fault))
+      asked_suits x hx = (hx, λ o. either (is_enum_object P o) (go x) (halts Fault) (on x hx) (halted Fault))
 
   module _ (f : Frame) (h : HoldsOfFrame Q f) where
     drops_suits : (count : ℕ) → Suits (drops count f)

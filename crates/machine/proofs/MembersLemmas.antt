@@ -1,9 +1,8 @@
 -- The rows of methods of built-in classes and of arrays, where what they need is there.
 use Rattle.std.proofs.Common.{◌≡◌, ℕ, true, cond, Option, Some, None, refl}
 use Rattle.built_in.specs.declared.class_id.ArrayType.{ArrayType}
-use Rattle.built_in.specs.declared.class_id.BuiltIn.TheVariants.{Enum}
 use Rattle.built_in.specs.declared.class_id.ClassId.{ClassId}
-use Rattle.built_in.specs.declared.class_id.ClassId.TheVariants.{BuiltIn, Array}
+use Rattle.built_in.specs.declared.class_id.ClassId.TheVariants.{Array}
 use Rattle.hierarchy.specs.declared.member.Method.{Method}
 use Rattle.hierarchy.specs.Selection.{selected}
 use Rattle.vm_state.specs.declared.ends.FaultKind.TheVariants.{Fault}
@@ -19,7 +18,7 @@ use Rattle.program.specs.Tables.{Tables}
 use Rattle.machine.specs.declared.call_operation.Choice.TheVariants.{Selected}
 use Rattle.machine.specs.RowParts.{halts, needing}
 use Rattle.machine.specs.ObjectParts.{look_into_named, ask_class_of, without_object}
-use Rattle.machine.specs.Objects.{is_of}
+use Rattle.machine.specs.Objects.{is_enum_object}
 use Rattle.machine.specs.Members.{new_enum, or_slot, enum_part, copy_of, clone_if_array, clone_array}
 use Rattle.machine.specs.Calls.{runs, runs_chosen}
 
@@ -36,13 +35,13 @@ clone_nameless v f none = rw none refl
 
 module _ {A : Type 0} (run : Row → A) where
   pub enum_asked : (P : Tables) (slot : ℕ) (v : Value) (f : Frame) (x : Name) (o : Option ClassId) → name_of v ≡ Some x
-      → ((next : Option ClassId → Row) → run (AskClass x next) ≡ run (next o)) → is_of P (BuiltIn Enum) o ≡ true
+      → ((next : Option ClassId → Row) → run (AskClass x next) ≡ run (next o)) → is_enum_object P o ≡ true
       → run (enum_part P slot v f) ≡ run (look_into_named x slot (or_slot x slot f))
   enum_asked P slot v f x o named asked is =
-      let led : run (AskClass x (λ k. cond (is_of P (BuiltIn Enum) k) (look_into_named x slot (or_slot x slot f))
+      let led : run (AskClass x (λ k. cond (is_enum_object P k) (look_into_named x slot (or_slot x slot f))
       (halts Fault)))
       ≡ run (look_into_named x slot (or_slot x slot f)) =
-      rw is at (asked (λ k. cond (is_of P (BuiltIn Enum) k) (look_into_named x slot (or_slot x slot f)) (halts Fault)))
+      rw is at (asked (λ k. cond (is_enum_object P k) (look_into_named x slot (or_slot x slot f)) (halts Fault)))
       in
       rw named led
 

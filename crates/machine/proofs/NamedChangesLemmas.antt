@@ -28,7 +28,7 @@ use Rattle.semantics.specs.Moves.{advanced, with_operands, stays}
 use Rattle.semantics.specs.Quiet.{fixed_of, fixed_at}
 use Rattle.semantics.proofs.TestsLemmas.{same_maker-true}
 use Rattle.semantics.proofs.NamedRowsLemmas.{Leaves, ended, changed, made, pool_apart, pool_same}
-use Rattle.hierarchy.specs.Subtypes.{is_below}
+use Rattle.hierarchy.specs.Subtypes.{has_slots_of}
 use Rattle.program.specs.Holders.{has_fields_of}
 use Rattle.program.specs.Tables.{Tables}
 use Rattle.frame_instructions.specs.declared.operand_kind.OperandKind.TheVariants.{Int, Reference}
@@ -41,7 +41,7 @@ use Rattle.machine.specs.RowParts.{halts, needing, goes_on, drops, raises}
 use Rattle.machine.specs.StoredKinds.{top_stored}
 use Rattle.machine.specs.ObjectParts.{slot_in, size_in, set_named, on_name, class_of_nameless, ask_class_of}
 use Rattle.machine.specs.ObjectParts.{without_object, with_object}
-use Rattle.machine.specs.Objects.{is_of, is_holder, put_field}
+use Rattle.machine.specs.Objects.{is_enum_object, is_holder, put_field}
 use Rattle.machine.specs.Arrays.{unless_trapped, served_type, is_served, kind_of_component, slot_at, stored_as}
 use Rattle.machine.specs.Arrays.{is_checked, if_held, can_hold, check_store, store_element}
 use Rattle.machine.specs.Members.{name_once, new_enum}
@@ -62,7 +62,7 @@ later_slot (a ∷ b ∷ slots) (suc (suc i)) v far = refl
 module _ (P : Tables) where
   -- of an object that is no Enum's, or by such a slot
   pub slot_apart : (p : Pool) (n i : ℕ) (v : Value) (class : Option ClassId) → class_at p n ≡ class
-      → (is_of P (BuiltIn builtins.Enum) class ≡ true → 2 ≤ i) → (vs : List Value)
+      → (is_enum_object P class ≡ true → 2 ≤ i) → (vs : List Value)
       → fixed_at (program_of P) Named p n ≡ Some vs → fixed_at (program_of P) Named (with_slot p n i v) n ≡ Some vs
   slot_apart p n i v class of far vs is =
       subst (λ (b : Bool). option_and_then (fixed_of (program_of P) Named)
@@ -72,7 +72,7 @@ module _ (P : Tables) where
       same_number : (k : ℕ) → (k == k) ≡ true
       same_number k = grind arith
 
-      by_enum : (o : Object) (b : Bool) → is_below P.family o.class (BuiltIn builtins.Enum) ≡ b
+      by_enum : (o : Object) (b : Bool) → has_slots_of P.family builtins.Enum o.class ≡ b
           → (b ≡ true → 2 ≤ i) → cond b (part_of Named o.slots) None ≡ Some vs
           → cond b (part_of Named (slice_set o.slots i v)) None ≡ Some vs
       by_enum o true below late h = later_slot o.slots i v (late refl) ∙ h
@@ -83,8 +83,8 @@ module _ (P : Tables) where
           → option_and_then (fixed_of (program_of P) Named) (option_map (object_with_slot i v) o) ≡ Some vs
       by_object None c h = cc
       by_object (Some o) c h =
-          by_enum o (is_below P.family o.class (BuiltIn builtins.Enum)) refl
-          (λ below. far (ap (is_of P (BuiltIn builtins.Enum)) (sym c) ∙ below)) h
+          by_enum o (has_slots_of P.family builtins.Enum o.class) refl
+          (λ below. far (ap (is_enum_object P) (sym c) ∙ below)) h
 
   -- an object whose name is not set has none
   unset : (p : Pool) (n : ℕ) → slot_in (part_at Slots p n) 0 ≡ Some values.Null
@@ -102,7 +102,7 @@ module _ (P : Tables) where
           → slot_in (option_and_then (part_of Slots) (option_map (λ (x : Object). x.slots) o)) 0 ≡ Some values.Null
           → option_and_then (fixed_of (program_of P) Named) o ≡ None
       by_object None h = cc
-      by_object (Some o) h = by_enum o.slots (is_below P.family o.class (BuiltIn builtins.Enum)) h
+      by_object (Some o) h = by_enum o.slots (has_slots_of P.family builtins.Enum o.class) h
 
   -- ---- rows from one state
 
@@ -217,7 +217,7 @@ module _ (P : Tables) where
 
     pub put_keeps : (field : InstanceField) (f : Frame)
         → ((c : ℕ) → has_fields_of P.family c field.class ≡ true
-        → is_below P.family (Given c) (BuiltIn builtins.Enum) ≡ true → 2 ≤ field.slot)
+        → has_slots_of P.family builtins.Enum (Given c) ≡ true → 2 ≤ field.slot)
         → Keeps (put_field P field f)
     put_keeps field f past =
         needed (top_stored field.kind f.operands) _ (λ held is.
@@ -289,6 +289,6 @@ module _ (P : Tables) where
         needed (top_as Int f.operands) _ (λ ordinal is.
         needed (top_as Reference (rest f.operands)) _ (λ name there.
         with_any v _ (λ x.
-        either (is_of P (BuiltIn builtins.Enum) (class_at (pool_of sh x.maker) x.number)) _ _ (λ enum.
+        either (is_enum_object P (class_at (pool_of sh x.maker) x.number)) _ _ (λ enum.
         once_keeps x name ordinal f (slot_in (part_at Slots (pool_of sh x.maker) x.number) 0) refl)
         (halted faults.Fault))))

@@ -19,7 +19,7 @@ use Rattle.semantics.specs.Moves.{advanced, with_operands, stays}
 use Rattle.semantics.specs.Rows.{Next, Raise, Halt, Stays, Returns, Row, Ends, UseMonitor, Outcome}
 use Rattle.semantics.specs.Rows.{UseClass, ReadStatic, WriteStatic}
 use Rattle.semantics.proofs.NamedRowsLemmas.{ended, made, uses, reads, writes, locks, prints}
-use Rattle.hierarchy.specs.Subtypes.{is_below}
+use Rattle.hierarchy.specs.Subtypes.{has_slots_of, is_below}
 use Rattle.program.specs.declared.signature.ReturnKind.{ReturnKind}
 use Rattle.program.specs.declared.signature.ReturnKind.TheVariants as returns
 use Rattle.program.specs.Holders.{has_fields_of}
@@ -159,7 +159,7 @@ module _ (P : Tables) (sound : AreSound P) where
   object_keeps : (operation : ObjectOperation) (f : Frame)
       → ((field : InstanceField) → operation ≡ objects.PutField field → (c : ℕ)
       → has_fields_of P.family c field.class ≡ true
-      → is_below P.family (Given c) (BuiltIn builtins.Enum) ≡ true → 2 ≤ field.slot)
+      → has_slots_of P.family builtins.Enum (Given c) ≡ true → 2 ≤ field.slot)
       → Keeps P (object_row P operation f)
   object_keeps (objects.NewGiven c) f past =
       class_used P c (new_object (Given c) (map zero_of (slots_of P.family c)) f)

@@ -2,8 +2,8 @@
 use Rattle.std.specs.Prelude.{◌≡◌, ◌≢◌, ◌≤◌, ℕ, true, Some}
 use Rattle.std.specs.List.{AllByRecursion}
 use Rattle.built_in.specs.declared.class_id.BuiltIn.TheVariants.{Enum}
-use Rattle.built_in.specs.declared.class_id.ClassId.TheVariants.{Given, BuiltIn}
-use Rattle.hierarchy.specs.Subtypes.{is_below}
+use Rattle.built_in.specs.declared.class_id.ClassId.TheVariants.{Given}
+use Rattle.hierarchy.specs.Subtypes.{has_slots_of}
 use Rattle.semantics.specs.Quiet.{is_final}
 use Rattle.semantics.specs.Lawful.{HoldsNoName, IsLawful}
 use Rattle.program.specs.declared.runtime_constant.FieldKind.{FieldKind}
@@ -26,7 +26,7 @@ pub record AreSound (P : Tables) : Type 0 where
   -- a field of instances has neither of the first two slots of an Enum object, its name and its ordinal
   pub slots : (d m at : ℕ) (field : InstanceField) → operation_at P d m at ≡ Some (OnObject (PutField field))
       → (c : ℕ) → has_fields_of P.family c field.class ≡ true
-      → is_below P.family (Given c) (BuiltIn Enum) ≡ true → 2 ≤ field.slot
+      → has_slots_of P.family Enum (Given c) ≡ true → 2 ≤ field.slot
   -- a `main`, which a thread's start calls, is no class initialization method
   pub mains : (c m : ℕ) → main_in P c ≡ Some m → initializer_in P c ≢ Some m
 

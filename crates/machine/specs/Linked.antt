@@ -1,7 +1,6 @@
 -- The linked program, as the initialization procedure and its threads ask of it.
 use Rattle.std.specs.Prelude.{ℕ, List, [], ◌∷◌, Option, Some, None, if◌then◌else◌, replicate, map, length}
 use Rattle.built_in.specs.declared.class_id.BuiltIn.TheVariants.{Enum}
-use Rattle.built_in.specs.declared.class_id.ClassId.TheVariants.{BuiltIn}
 use Rattle.vm_state.specs.declared.value.Value.TheVariants.{OfThread}
 use Rattle.vm_state.specs.declared.frame.Frame.{Frame}
 use Rattle.vm_state.specs.declared.frame.Activity.{Activity}
@@ -9,7 +8,7 @@ use Rattle.vm_state.specs.declared.frame.Activity.TheVariants.{Start, Method}
 use Rattle.vm_state.specs.declared.classes.ClassArea.{ClassArea}
 use Rattle.vm_state.specs.Statics.{blank_area}
 use Rattle.semantics.specs.Programs.{Program}
-use Rattle.hierarchy.specs.Subtypes.{is_below}
+use Rattle.hierarchy.specs.Subtypes.{has_slots_of}
 use Rattle.program.specs.declared.class.Class.{Class}
 use Rattle.program.specs.declared.class.Implementation.{Implementation}
 use Rattle.program.specs.declared.class.Implementation.TheVariants as implementations
@@ -63,6 +62,6 @@ program_of P = record {
   parents = order_in P;
   statics = statics_in P;
   initializes = initialized_by P;
-  is_enum = λ class. is_below P.family class (BuiltIn Enum);
+  is_enum = λ class. has_slots_of P.family Enum class;
   start = start_frame;
 }

@@ -1,7 +1,6 @@
 -- Methods of built-in classes and of arrays, on a receiver that is not null (JVMS 2.9, 6.5; JLS 8.9.3, 10.7).
 use Rattle.std.specs.Prelude.{ℕ, Option, Some, None, if◌then◌else◌}
 use Rattle.built_in.specs.declared.class_id.ArrayType.{ArrayType}
-use Rattle.built_in.specs.declared.class_id.BuiltIn.TheVariants as builtins
 use Rattle.built_in.specs.declared.class_id.ClassId.{ClassId}
 use Rattle.built_in.specs.declared.class_id.ClassId.TheVariants.{Given, BuiltIn, Array}
 use Rattle.built_in.specs.declared.method.BuiltInMethod.{BuiltInMethod}
@@ -21,14 +20,14 @@ use Rattle.frame_instructions.specs.Instructions.{is_null}
 use Rattle.frame_instructions.specs.OperandKinds.{top_as}
 use Rattle.machine.specs.RowParts.{halts, needing, push, drops}
 use Rattle.machine.specs.ObjectParts.{look_into_slot, look_into_named, set_named, with_object}
-use Rattle.machine.specs.Objects.{is_of}
+use Rattle.machine.specs.Objects.{is_enum_object}
 
 -- ---- Enum
 
--- goes on with an object of Enum or of a class below it, which a value refers to
+-- goes on with an object of Enum or of a class that ends below it, which a value refers to
 abbrev pub on_enum : Tables → Value → (Name → Row) → Row
 on_enum P v go =
-    with_object v (λ x. AskClass x (λ o. if is_of P (BuiltIn builtins.Enum) o then go x else halts faults.Fault))
+    with_object v (λ x. AskClass x (λ o. if is_enum_object P o then go x else halts faults.Fault))
 
 -- an Enum object has a name, which is not null, and is given it once
 abbrev pub name_once : Name → Value → Value → Frame → Option Value → Row

@@ -6,7 +6,8 @@ ghost use Rattle.std.specs.List.{list_all};
 ghost use Rattle.program.specs.Fields.{has_value};
 ghost use Rattle.machine.specs.CallReferences.{of_class, of_interface, of_either, has_values, returns_value, if_signed};
 ghost use Rattle.machine.specs.CallReferences.{may_call_static, static_callee, invokestatic_of, is_static_target};
-ghost use Rattle.machine.specs.CallReferences.{names_stream, instance_call, instance_operation, virtual_callee};
+ghost use Rattle.machine.specs.CallReferences.{is_stream, is_numbered, names_stream, instance_call};
+ghost use Rattle.machine.specs.CallReferences.{instance_operation, virtual_callee};
 ghost use Rattle.machine.specs.CallReferences.{virtual_reference, invokevirtual_of, invokeinterface_of};
 ghost use Rattle.machine.specs.CallReferences.{found_special, special_callee, invokespecial_of};
 
@@ -191,18 +192,44 @@ fn is_static_target(program: &Program, method: Method) -> bool
     }
 }
 
-fn names_stream(class: Option<ClassId>) -> bool
-    ensures { result ≡ names_stream class }
+fn is_stream(class: BuiltIn) -> bool
+    ensures { result ≡ is_stream class }
 {
-    matches!(class, Some(ClassId::BuiltIn(BuiltIn::PrintStream)))
+    matches!(class, BuiltIn::PrintStream)
 }
 
-fn instance_call(caller: u32, reference: MethodReference, choice: Choice) -> InstanceCall
-    ensures { result ≡ instance_call caller reference choice }
+fn is_numbered(number: Option<u32>, class: u32) -> bool
+    ensures { result ≡ is_numbered number class }
+{
+    match number {
+        Some(number) => number == class,
+        None => false,
+    }
+}
+
+/// Whether a reference names the class of `System.out`: `PrintStream`, or its substitute.
+fn names_stream(program: &Program, class: Option<ClassId>) -> bool
+    ensures { result ≡ names_stream program.now.family class }
+{
+    match class {
+        Some(ClassId::BuiltIn(class)) => is_stream(class),
+        Some(ClassId::Given(class)) => is_numbered(program.substitute(BuiltIn::PrintStream), class),
+        Some(ClassId::Array(_)) => false,
+        None => false,
+    }
+}
+
+fn instance_call(
+    program: &Program,
+    caller: u32,
+    reference: MethodReference,
+    choice: Choice,
+) -> InstanceCall
+    ensures { result ≡ instance_call program.now.family caller reference choice }
 {
     InstanceCall {
         choice,
-        names_stream: names_stream(reference.class),
+        names_stream: names_stream(program, reference.class),
         caller,
         descriptor: reference.descriptor,
     }
@@ -236,7 +263,7 @@ fn virtual_callee(
             if is_static_target(program, method) {
                 return Err(FaultKind::Fault);
             }
-            let call = instance_call(caller, reference, Choice::Selected(method));
+            let call = instance_call(program, caller, reference, Choice::Selected(method));
             Ok(instance_operation(Some(method), call))
         }
         Err(Unresolved::Missing) => Err(FaultKind::Missing),
@@ -316,7 +343,7 @@ fn special_callee(
             let found = found_special(program, caller, method, reference.class);
             Ok(instance_operation(
                 found,
-                instance_call(caller, reference, Choice::Found(found)),
+                instance_call(program, caller, reference, Choice::Found(found)),
             ))
         }
         Err(Unresolved::Missing) => Err(FaultKind::Missing),

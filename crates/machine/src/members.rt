@@ -8,11 +8,11 @@ ghost use Rattle.machine.specs.Members.{new_enum, or_slot, enum_part, copy_of, c
 ghost use Rattle.machine.specs.Accesses.{Gives, Untouched, Keeps, concluded};
 
 use crate::kinds::{Actor, Conclusion, Execution, Receiver, Stop};
-use crate::objects::is_of;
+use crate::objects::is_enum_object;
 use crate::pushing::replace_top;
 use crate::references::{name_of, second_reference, without_object};
 use crate::store::Store;
-use built_in::class_id::{ArrayType, BuiltIn, ClassId};
+use built_in::class_id::{ArrayType, ClassId};
 use frame_instructions::numeric::advance;
 use frame_instructions::operand_kind::{OperandKind, top_as};
 use program::{BuiltInMethod, Program};
@@ -57,11 +57,7 @@ fn new_enum<S: Store>(
     let Some(object) = name_of(receiver) else {
         return without_object(alloc, by, store, receiver);
     };
-    if !is_of(
-        program,
-        ClassId::BuiltIn(BuiltIn::Enum),
-        store.class_of(by, object)?,
-    ) {
+    if !is_enum_object(program, store.class_of(by, object)?) {
         return FAULT;
     }
     let Some(Value::Null) = store.slot(by, object, 0)? else {
@@ -115,11 +111,7 @@ fn enum_part<S: Store>(
     let Some(object) = name_of(receiver) else {
         return without_object(alloc, by, store, receiver);
     };
-    if !is_of(
-        program,
-        ClassId::BuiltIn(BuiltIn::Enum),
-        store.class_of(by, object)?,
-    ) {
+    if !is_enum_object(program, store.class_of(by, object)?) {
         return FAULT;
     }
     read_part(by, frame, store, object, slot)

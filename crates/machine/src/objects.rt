@@ -4,7 +4,7 @@ ghost use Rattle.std.specs.Prelude.{◌≡◌, List, []};
 ghost use Rattle.built_in.specs.declared.class_id.ClassId.TheVariants.{BuiltIn as BuiltInId};
 ghost use Rattle.vm_state.specs.Output.{Print};
 ghost use Rattle.machine.specs.Objects.{new_object, new_given, is_of, is_holder, ask_is_of, check_cast};
-ghost use Rattle.machine.specs.Objects.{int_of_boolean};
+ghost use Rattle.machine.specs.Objects.{int_of_boolean, is_enum_object};
 ghost use Rattle.machine.specs.Objects.{instance_of, throw_row};
 ghost use Rattle.machine.specs.Accesses.{Gives, Keeps, Leads};
 
@@ -108,6 +108,17 @@ pub fn is_of(program: &Program, class: ClassId, held: Option<ClassId>) -> bool
 {
     match held {
         Some(held) => program.is_below(held, class),
+        None => false,
+    }
+}
+
+/// Whether an object of this class has the slots of `Enum`: its name and its ordinal.
+#[inline(always)]
+pub fn is_enum_object(program: &Program, held: Option<ClassId>) -> bool
+    ensures { result ≡ is_enum_object program.now held }
+{
+    match held {
+        Some(held) => program.has_slots_of(held, BuiltIn::Enum),
         None => false,
     }
 }

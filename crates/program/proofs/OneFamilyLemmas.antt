@@ -13,7 +13,8 @@ use Rattle.loading.specs.declared.given.GivenClass.{GivenClass}
 use Rattle.loading.specs.declared.given.Superclass.{Superclass}
 use Rattle.loading.specs.declared.given.Superclass.TheVariants as super
 use Rattle.loading.specs.Names.{name_of, superclass_of, interfaces_of, Precedes}
-use Rattle.loading.specs.Families.{Family, IsFamily, IsFamilyOf, file_of, name_in, superclass_name}
+use Rattle.loading.specs.Families.{Family, IsFamily, IsFamilyOf, file_of, files_in, name_in, superclass_name}
+use Rattle.loading.specs.Library.{extended_name, superclass_meant}
 use Rattle.loading.specs.Files.{Links, no_superclass}
 use Rattle.loading.specs.ClassIds.{IsNamed}
 use Rattle.loading.proofs.FilesMovedLemmas.{family_moved, moved_back}
@@ -72,9 +73,6 @@ same_files (f ∷ fs) (g ∷ gs) up more to back =
     cc
 
 -- ---- files and names by number
-
-abbrev files_in : Family → List ClassFile
-files_in family = map (λ (c : GivenClass). c.file) family
 
 file_at : (family : Family) (c : ℕ) → file_of (slice_get family c) ≡ slice_get (files_in family) c
 file_at [] c = refl
@@ -166,18 +164,23 @@ names_of_numbers_alike F G names (c ∷ cs) =
     cc
 
 superclasses_alike : (files : List ClassFile) (F G : Family) → Links files → IsFamilyOf files F
-    → ((c : ℕ) → name_in F c ≡ name_in G c) → (x y : GivenClass) → Contains (files_in F) x.file → x.file ≡ y.file
-    → superclass_of x.file ≡ superclass_name F x.superclass
-    → superclass_of y.file ≡ superclass_name G y.superclass → x.superclass ≡ y.superclass
-superclasses_alike files F G links h names x y in-F same at-x at-y = by_name (superclass_of x.file) refl
+    → files_in F ≡ files_in G → ((c : ℕ) → name_in F c ≡ name_in G c) → (x y : GivenClass)
+    → Contains (files_in F) x.file → x.file ≡ y.file
+    → superclass_meant (files_in F) x.file ≡ superclass_name F x.superclass
+    → superclass_meant (files_in G) y.file ≡ superclass_name G y.superclass → x.superclass ≡ y.superclass
+superclasses_alike files F G links h alike names x y in-F same at-x at-y = by_name (superclass_of x.file) refl
   where
     by_name : (o : Option (List ℕ)) → superclass_of x.file ≡ o → x.superclass ≡ y.superclass
     by_name None none =
         absurd (links.parents (name_of x.file)
         (x.file, ((h.members x.file).1 in-F, refl), bad.NoSuperclass, no_superclass none))
     by_name (Some name) is =
-        superclass_of_name F h.fits name x.superclass y.superclass (sym at-x ∙ is)
-        (superclass_names_alike F G names y.superclass ∙ sym at-y ∙ sym (ap superclass_of same) ∙ is)
+        let meant : superclass_meant (files_in F) x.file ≡ Some (extended_name (files_in F) x.file name) =
+        ap (option_map (extended_name (files_in F) x.file)) is in
+        superclass_of_name F h.fits (extended_name (files_in F) x.file name) x.superclass y.superclass
+        (sym at-x ∙ meant)
+        (superclass_names_alike F G names y.superclass ∙ sym at-y ∙ sym (ap (superclass_meant (files_in G)) same)
+        ∙ sym (ap (λ (z : List ClassFile). superclass_meant z x.file) alike) ∙ meant)
 
 interfaces_alike : (F G : Family) → IsFamily F → ((c : ℕ) → name_in F c ≡ name_in G c) → (x y : GivenClass)
     → x.file ≡ y.file → map Some (interfaces_of x.file) ≡ map (name_in F) x.interfaces
@@ -198,10 +201,10 @@ classes_alike files F G links h g i x y at-x at-y =
     same_Some x.file y.file (sym file-x ∙ ap (λ (fs : List ClassFile). slice_get fs i) same ∙ file-y) in
     let in-F = contains_at F i x at-x in
     let in-G = contains_at G i y at-y in
-    let up = superclasses_alike files F G links h names x y (contains_at (files_in F) i x.file file-x) files-same
-    (All-contains (λ (c : GivenClass). superclass_of c.file ≡ superclass_name F c.superclass) F x
+    let up = superclasses_alike files F G links h same names x y (contains_at (files_in F) i x.file file-x) files-same
+    (All-contains (λ (c : GivenClass). superclass_meant (files_in F) c.file ≡ superclass_name F c.superclass) F x
     h.fits.superclass_names in-F)
-    (All-contains (λ (c : GivenClass). superclass_of c.file ≡ superclass_name G c.superclass) G y
+    (All-contains (λ (c : GivenClass). superclass_meant (files_in G) c.file ≡ superclass_name G c.superclass) G y
     g.fits.superclass_names in-G) in
     let beside = interfaces_alike F G h.fits names x y files-same
     (All-contains (λ (c : GivenClass). map Some (interfaces_of c.file) ≡ map (name_in F) c.interfaces) F x

@@ -9,10 +9,10 @@ use Rattle.classfile.specs.declared.code.Code.{Code as CodeAttribute}
 use Rattle.classfile.specs.declared.member.Member.{Member}
 use Rattle.bytecode.proofs.UniquenessLemmas.{same_body}
 use Rattle.built_in.specs.declared.class_id.ClassId.{ClassId}
-use Rattle.loading.specs.ClassIds.{StandsFor}
+use Rattle.loading.specs.ClassIds.{Denotes}
 use Rattle.loading.specs.Families.{Family, IsFamily}
 use Rattle.loading.specs.Names.{class_name_at, text_at}
-use Rattle.loading.proofs.UniquenessLemmas.{one_class}
+use Rattle.loading.proofs.UniquenessLemmas.{one_denotation}
 use Rattle.program.specs.declared.class.Implementation.{Implementation}
 use Rattle.program.specs.declared.class.Implementation.TheVariants as implementations
 use Rattle.program.specs.declared.class.MethodCode.{MethodCode}
@@ -32,7 +32,7 @@ caught_zero IsCaught.anything e = refl
 caught_zero (IsCaught.class some named) e = absurd (some e)
 
 caught_class : {family : Family} {f : ClassFile} {index : ℕ} {a : Catches} → IsCaught family f index a → index ≢ 0
-    → (x : Option ClassId) × StandsFor family (class_name_at f index) x × (a ≡ catches.Class x)
+    → (x : Option ClassId) × Denotes family f (class_name_at f index) x × (a ≡ catches.Class x)
 caught_class IsCaught.anything some = absurd (some refl)
 caught_class (IsCaught.class {x} also named) some = (x, named, refl)
 
@@ -41,7 +41,7 @@ same_caught : {family : Family} {f : ClassFile} {index : ℕ} {a b : Catches} �
 same_caught fits IsCaught.anything g = sym (caught_zero g refl)
 same_caught {family} {f} {index} fits (IsCaught.class {x} some named) g =
     let other = caught_class g some in
-    ap catches.Class (one_class family fits (class_name_at f index) x other.0 named other.1) ∙ sym other.2
+    ap catches.Class (one_denotation family fits f (class_name_at f index) x other.0 named other.1) ∙ sym other.2
 
 pub one_handler : OneHandler
 one_handler family f entry a b fits h g =

@@ -8,10 +8,10 @@ use Rattle.classfile.specs.declared.constant.Constant.{Constant}
 use Rattle.classfile.specs.declared.constant.Constant.TheVariants as constants
 use Rattle.built_in.specs.Keys.{NameAndType}
 use Rattle.built_in.specs.declared.class_id.ClassId.{ClassId}
-use Rattle.loading.specs.ClassIds.{StandsFor}
+use Rattle.loading.specs.ClassIds.{Denotes}
 use Rattle.loading.specs.Families.{Family, IsFamily}
 use Rattle.loading.specs.Names.{class_name_at, text_at}
-use Rattle.loading.proofs.UniquenessLemmas.{one_class}
+use Rattle.loading.proofs.UniquenessLemmas.{one_denoted, one_denotation}
 use Rattle.hierarchy.specs.declared.member.Field.{Field}
 use Rattle.hierarchy.specs.declared.member.Method.{Method}
 use Rattle.hierarchy.specs.declared.member.Unresolved.{Unresolved}
@@ -31,65 +31,66 @@ use Rattle.program.proofs.SameListsLemmas.{item_within, same_list}
 
 -- ---- references
 
-same_id : {family : Family} {name : List ℕ} {x y : ClassId} → IsFamily family → StandsFor family name (Some x)
-    → StandsFor family name (Some y) → x ≡ y
-same_id {family} {name} {x} {y} fits h g = same_Some x y (one_class family fits name (Some x) (Some y) h g)
+same_id : {family : Family} (f : ClassFile) {name : List ℕ} {x y : ClassId} → IsFamily family
+    → Denotes family f name (Some x) → Denotes family f name (Some y) → x ≡ y
+same_id {family} f {name} {x} {y} fits h g = one_denoted family fits f name x y h g
 
--- what the classes that a name stands for resolve to is one answer
-one_answer : {A : Type 0} {family : Family} {name : List ℕ} {x y : ClassId} {r s : Option A}
+-- what the classes that a name denotes resolve to is one answer
+one_answer : {A : Type 0} {family : Family} (f : ClassFile) {name : List ℕ} {x y : ClassId} {r s : Option A}
     (Resolves : ClassId → Option A → Type 0) → (Resolves y r → Resolves y s → r ≡ s) → IsFamily family
-    → StandsFor family name (Some x) → Resolves x r → StandsFor family name (Some y) → Resolves y s → r ≡ s
-one_answer {r = r} Resolves same fits s p t q = same (subst (λ (z : ClassId). Resolves z r) (same_id fits s t) p) q
+    → Denotes family f name (Some x) → Resolves x r → Denotes family f name (Some y) → Resolves y s → r ≡ s
+one_answer f {r = r} Resolves same fits s p t q =
+    same (subst (λ (z : ClassId). Resolves z r) (same_id f fits s t) p) q
 
 found_or_not : {A : Type 0} {m : A} → None ≡ Some m → ⊥
 found_or_not e = cc
 
-one_field : {family : Family} {name : List ℕ} {key : NameAndType} {a b : Result Field Unresolved} → IsFamily family
-    → FindsField family name key a → FindsField family name key b → a ≡ b
+one_field : {family : Family} {f : ClassFile} {name : List ℕ} {key : NameAndType} {a b : Result Field Unresolved}
+    → IsFamily family → FindsField family f name key a → FindsField family f name key b → a ≡ b
 one_field fits (FindsField.unknown s) (FindsField.unknown t) = refl
 one_field fits (FindsField.unknown s) (FindsField.missing t p) = refl
-one_field fits (FindsField.unknown s) (FindsField.found {x = y} t p) = absurd (s y t)
+one_field fits (FindsField.unknown s) (FindsField.found t p) = absurd (s t.0 t.1)
 one_field fits (FindsField.missing s p) (FindsField.unknown t) = refl
 one_field fits (FindsField.missing s p) (FindsField.missing t q) = refl
-one_field {family} {key = key} fits (FindsField.missing s p) (FindsField.found t q) =
-    absurd (found_or_not (one_answer (ResolvesField family key) same_field fits s p t q))
-one_field fits (FindsField.found {x} s p) (FindsField.unknown t) = absurd (t x s)
-one_field {family} {key = key} fits (FindsField.found s p) (FindsField.missing t q) =
-    absurd (found_or_not (one_answer (ResolvesField family key) same_field fits t q s p))
-one_field {family} {key = key} fits (FindsField.found {x} {m} s p) (FindsField.found {x = y} {m = n} t q) =
-    ap Ok (same_Some m n (one_answer (ResolvesField family key) same_field fits s p t q))
+one_field {family} {f} {key = key} fits (FindsField.missing s p) (FindsField.found t q) =
+    absurd (found_or_not (one_answer f (ResolvesField family key) same_field fits s p t q))
+one_field fits (FindsField.found s p) (FindsField.unknown t) = absurd (t s.0 s.1)
+one_field {family} {f} {key = key} fits (FindsField.found s p) (FindsField.missing t q) =
+    absurd (found_or_not (one_answer f (ResolvesField family key) same_field fits t q s p))
+one_field {family} {f} {key = key} fits (FindsField.found {x} {m} s p) (FindsField.found {x = y} {m = n} t q) =
+    ap Ok (same_Some m n (one_answer f (ResolvesField family key) same_field fits s p t q))
 
-no_other_kind : {family : Family} {name : List ℕ} {x y : ClassId} (wants : Bool) → IsFamily family
-    → StandsFor family name (Some x) → (is_interface_id family x ≡ wants → ⊥) → StandsFor family name (Some y)
+no_other_kind : {family : Family} (f : ClassFile) {name : List ℕ} {x y : ClassId} (wants : Bool) → IsFamily family
+    → Denotes family f name (Some x) → (is_interface_id family x ≡ wants → ⊥) → Denotes family f name (Some y)
     → is_interface_id family y ≡ wants → ⊥
-no_other_kind {family} wants fits s off t on = off (ap (is_interface_id family) (same_id fits s t) ∙ on)
+no_other_kind {family} f wants fits s off t on = off (ap (is_interface_id family) (same_id f fits s t) ∙ on)
 
-one_method : {family : Family} {owner : _} {name : List ℕ} {key : NameAndType}
-    {a b : Result Method Unresolved} → IsFamily family → FindsMethod family owner name key a
-    → FindsMethod family owner name key b → a ≡ b
+one_method : {family : Family} {f : ClassFile} {owner : _} {name : List ℕ} {key : NameAndType}
+    {a b : Result Method Unresolved} → IsFamily family → FindsMethod family f owner name key a
+    → FindsMethod family f owner name key b → a ≡ b
 one_method fits (FindsMethod.unknown s) (FindsMethod.unknown t) = refl
-one_method fits (FindsMethod.unknown s) (FindsMethod.incompatible {x = y} t off) = absurd (s y t)
+one_method fits (FindsMethod.unknown s) (FindsMethod.incompatible t off) = absurd (s t.0 t.1)
 one_method fits (FindsMethod.unknown s) (FindsMethod.missing t on q) = refl
-one_method fits (FindsMethod.unknown s) (FindsMethod.found {x = y} t on q) = absurd (s y t)
-one_method fits (FindsMethod.incompatible {x} s off) (FindsMethod.unknown t) = absurd (t x s)
+one_method fits (FindsMethod.unknown s) (FindsMethod.found t on q) = absurd (s t.0 t.1)
+one_method fits (FindsMethod.incompatible s off) (FindsMethod.unknown t) = absurd (t s.0 s.1)
 one_method fits (FindsMethod.incompatible s off) (FindsMethod.incompatible t also) = refl
-one_method {owner = owner} fits (FindsMethod.incompatible s off) (FindsMethod.missing t on q) =
-    absurd (no_other_kind (wants_interface owner) fits s off t on)
-one_method {owner = owner} fits (FindsMethod.incompatible s off) (FindsMethod.found t on q) =
-    absurd (no_other_kind (wants_interface owner) fits s off t on)
+one_method {f = f} {owner = owner} fits (FindsMethod.incompatible s off) (FindsMethod.missing t on q) =
+    absurd (no_other_kind f (wants_interface owner) fits s off t on)
+one_method {f = f} {owner = owner} fits (FindsMethod.incompatible s off) (FindsMethod.found t on q) =
+    absurd (no_other_kind f (wants_interface owner) fits s off t on)
 one_method fits (FindsMethod.missing s on p) (FindsMethod.unknown t) = refl
-one_method {owner = owner} fits (FindsMethod.missing s on p) (FindsMethod.incompatible t off) =
-    absurd (no_other_kind (wants_interface owner) fits t off s on)
+one_method {f = f} {owner = owner} fits (FindsMethod.missing s on p) (FindsMethod.incompatible t off) =
+    absurd (no_other_kind f (wants_interface owner) fits t off s on)
 one_method fits (FindsMethod.missing s on p) (FindsMethod.missing t also q) = refl
-one_method {family} {key = key} fits (FindsMethod.missing s on p) (FindsMethod.found t also q) =
-    absurd (found_or_not (one_answer (ResolvesMethod family key) same_method fits s p t q))
-one_method fits (FindsMethod.found {x} s on p) (FindsMethod.unknown t) = absurd (t x s)
-one_method {owner = owner} fits (FindsMethod.found s on p) (FindsMethod.incompatible t off) =
-    absurd (no_other_kind (wants_interface owner) fits t off s on)
-one_method {family} {key = key} fits (FindsMethod.found s on p) (FindsMethod.missing t also q) =
-    absurd (found_or_not (one_answer (ResolvesMethod family key) same_method fits t q s p))
-one_method {family} {key = key} fits (FindsMethod.found {x} {m} s on p) (FindsMethod.found {x = y} {m = n} t also q) =
-    ap Ok (same_Some m n (one_answer (ResolvesMethod family key) same_method fits s p t q))
+one_method {family} {f} {key = key} fits (FindsMethod.missing s on p) (FindsMethod.found t also q) =
+    absurd (found_or_not (one_answer f (ResolvesMethod family key) same_method fits s p t q))
+one_method fits (FindsMethod.found s on p) (FindsMethod.unknown t) = absurd (t s.0 s.1)
+one_method {f = f} {owner = owner} fits (FindsMethod.found s on p) (FindsMethod.incompatible t off) =
+    absurd (no_other_kind f (wants_interface owner) fits t off s on)
+one_method {family} {f} {key = key} fits (FindsMethod.found s on p) (FindsMethod.missing t also q) =
+    absurd (found_or_not (one_answer f (ResolvesMethod family key) same_method fits t q s p))
+one_method {family} {f} {key = key} fits (FindsMethod.found {x} {m} s on p) (FindsMethod.found {x = y} {m = n} t also q) =
+    ap Ok (same_Some m n (one_answer f (ResolvesMethod family key) same_method fits s p t q))
 
 -- ---- one constant
 
@@ -102,7 +103,7 @@ one_reference family fits f index c n constant a b at one h g =
     let found : (r : Result Method Unresolved) → ResolvesMethodAt family f index r
     → MethodOfConstant family f (Some constant) r =
     λ r. subst (λ (o : Option Constant). MethodOfConstant family f o r) at in
-    let x = one_class family fits (class_name_at f c) a.class b.class h.class g.class in
+    let x = one_denotation family fits f (class_name_at f c) a.class b.class h.class g.class in
     let d = h.descriptor ∙ sym g.descriptor in
     let t = one a.target b.target (found a.target h.target) (found b.target g.target) in
     λ i. record { class = x i; descriptor = d i; target = t i }
@@ -119,11 +120,11 @@ module _ (family : Family) (fits : IsFamily family) (strings : List (List ℕ)) 
   one_constant at (IsRuntimeConstant.string {utf8} {n} h) (IsRuntimeConstant.string {n = m} g) =
       ap runtime.String (apart n m (text_at f utf8) h g)
   one_constant at (IsRuntimeConstant.class {x} h) (IsRuntimeConstant.class {x = y} g) =
-      ap runtime.Class (one_class family fits (class_name_at f index) x y h g)
+      ap runtime.Class (one_denotation family fits f (class_name_at f index) x y h g)
   one_constant at (IsRuntimeConstant.field {c} {n} r h) (IsRuntimeConstant.field q g) =
       let P : Result Field Unresolved → Option Constant → Type 0 = λ r o. FieldOfConstant family f o r in
-      let first : FindsField family (class_name_at f c) (key_at f n) r = subst (P r) at h in
-      let second : FindsField family (class_name_at f c) (key_at f n) q = subst (P q) at g in
+      let first : FindsField family f (class_name_at f c) (key_at f n) r = subst (P r) at h in
+      let second : FindsField family f (class_name_at f c) (key_at f n) q = subst (P q) at g in
       let held : Result Field Unresolved → RuntimeConstant =
       λ r. runtime.Field (field_kind (key_at f n).descriptor) (targeted family r) in
       ap held (one_field fits first second)

@@ -12,7 +12,7 @@ use Rattle.program.specs.declared.runtime_constant.MethodReference.{MethodRefere
 use Rattle.program.specs.declared.runtime_constant.RuntimeConstant.{RuntimeConstant}
 use Rattle.program.specs.declared.runtime_constant.RuntimeConstant.TheVariants as runtime
 use Rattle.built_in.specs.declared.class_id.ClassId.{ClassId}
-use Rattle.loading.specs.ClassIds.{StandsFor}
+use Rattle.loading.specs.ClassIds.{Denotes}
 use Rattle.loading.specs.Families.{Family}
 use Rattle.loading.specs.Names.{class_name_at}
 use Rattle.hierarchy.specs.steps.GrowingTexts.{KeepsNumbers}
@@ -89,10 +89,10 @@ constants_next family old strings f pool new i constant held count keeps here is
 
 class_by : (family : Family) (strings : List (List ℕ)) (f : ClassFile) (index : ℕ) (constant : Constant)
     (held : RuntimeConstant) (x : Option ClassId) → IsRuntimeConstant family strings f index constant held
-    → held ≡ runtime.Class x → StandsFor family (class_name_at f index) x
+    → held ≡ runtime.Class x → Denotes family f (class_name_at f index) x
 class_by family strings f index constant held x (IsRuntimeConstant.class {x = y} named) e =
     let same : y ≡ x = cc in
-    subst (StandsFor family (class_name_at f index)) same named
+    subst (Denotes family f (class_name_at f index)) same named
 class_by family strings f index constant held x IsRuntimeConstant.int e = absurd cc
 class_by family strings f index constant held x IsRuntimeConstant.long e = absurd cc
 class_by family strings f index constant held x IsRuntimeConstant.float e = absurd cc
@@ -149,7 +149,7 @@ same_entry family strings f i j constant held e IsRuntimeConstant.float = IsRunt
 same_entry family strings f i j constant held e IsRuntimeConstant.double = IsRuntimeConstant.double
 same_entry family strings f i j constant held e (IsRuntimeConstant.string at) = IsRuntimeConstant.string at
 same_entry family strings f i j constant held e (IsRuntimeConstant.class {x = x} named) =
-    IsRuntimeConstant.class (subst (λ n. StandsFor family n x) (class_name_same f i j e) named)
+    IsRuntimeConstant.class (subst (λ n. Denotes family f n x) (class_name_same f i j e) named)
 same_entry family strings f i j constant held e (IsRuntimeConstant.field r resolves) =
     IsRuntimeConstant.field r (subst (λ o. FieldOfConstant family f o r) e resolves)
 same_entry family strings f i j constant held e (IsRuntimeConstant.method {c = c} {n = n} {r = r} is) =

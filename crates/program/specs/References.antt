@@ -15,7 +15,7 @@ use Rattle.hierarchy.specs.declared.member.Unresolved.TheVariants.{NoReference, 
 use Rattle.built_in.specs.Keys.{NameAndType}
 use Rattle.loading.specs.Names.{class_name_at, text_at}
 use Rattle.loading.specs.Families.{Family, file_in, is_interface_in}
-use Rattle.loading.specs.ClassIds.{StandsFor}
+use Rattle.loading.specs.ClassIds.{Denotes}
 use Rattle.hierarchy.specs.Resolution.{ResolvesField, ResolvesMethod}
 
 -- the name and the descriptor that a NameAndType gives (JVMS 4.4.6)
@@ -33,42 +33,43 @@ is_interface_id family (class.Given c) = is_interface_in family c
 is_interface_id family (class.BuiltIn b) = false
 is_interface_id family (class.Array a) = false
 
--- The field that the class of a name has, by the field's name and descriptor.
-pub data FindsField (family : Family) (name : List ℕ) (key : NameAndType) : Result Field Unresolved → Type 0 where
-  unknown : StandsFor family name None → FindsField family name key (Err Missing)
-  missing : {x : ClassId} → StandsFor family name (Some x) → ResolvesField family key x None
-      → FindsField family name key (Err Missing)
-  found : {x : ClassId} {m : Field} → StandsFor family name (Some x) → ResolvesField family key x (Some m)
-      → FindsField family name key (Ok m)
+-- The field that the class has which a name denotes in a class file, by the field's name and descriptor.
+pub data FindsField (family : Family) (f : ClassFile) (name : List ℕ) (key : NameAndType) : Result Field Unresolved
+    → Type 0 where
+  unknown : Denotes family f name None → FindsField family f name key (Err Missing)
+  missing : {x : ClassId} → Denotes family f name (Some x) → ResolvesField family key x None
+      → FindsField family f name key (Err Missing)
+  found : {x : ClassId} {m : Field} → Denotes family f name (Some x) → ResolvesField family key x (Some m)
+      → FindsField family f name key (Ok m)
 
 -- whether a method reference names an interface
 abbrev pub wants_interface : MethodOwner → Bool
 wants_interface owners.Class = false
 wants_interface owners.Interface = true
 
--- The method that the class of a name has. A Methodref may not name an interface, and an InterfaceMethodref must (JVMS
+-- The method that such a class has. A Methodref may not name an interface, and an InterfaceMethodref must (JVMS
 -- 5.4.3.3, 5.4.3.4).
-pub data FindsMethod (family : Family) (owner : MethodOwner) (name : List ℕ) (key : NameAndType) : Result Method
-    Unresolved → Type 0 where
-  unknown : StandsFor family name None → FindsMethod family owner name key (Err Missing)
-  incompatible : {x : ClassId} → StandsFor family name (Some x) → is_interface_id family x ≢ wants_interface owner
-      → FindsMethod family owner name key (Err Incompatible)
-  missing : {x : ClassId} → StandsFor family name (Some x) → is_interface_id family x ≡ wants_interface owner
+pub data FindsMethod (family : Family) (f : ClassFile) (owner : MethodOwner) (name : List ℕ) (key : NameAndType) :
+    Result Method Unresolved → Type 0 where
+  unknown : Denotes family f name None → FindsMethod family f owner name key (Err Missing)
+  incompatible : {x : ClassId} → Denotes family f name (Some x) → is_interface_id family x ≢ wants_interface owner
+      → FindsMethod family f owner name key (Err Incompatible)
+  missing : {x : ClassId} → Denotes family f name (Some x) → is_interface_id family x ≡ wants_interface owner
       → ResolvesMethod family key x None
-      → FindsMethod family owner name key (Err Missing)
-  found : {x : ClassId} {m : Method} → StandsFor family name (Some x) → is_interface_id family x ≡ wants_interface owner
-      → ResolvesMethod family key x (Some m) → FindsMethod family owner name key (Ok m)
+      → FindsMethod family f owner name key (Err Missing)
+  found : {x : ClassId} {m : Method} → Denotes family f name (Some x) → is_interface_id family x ≡ wants_interface owner
+      → ResolvesMethod family key x (Some m) → FindsMethod family f owner name key (Ok m)
 
 abbrev pub FieldOfConstant : Family → ClassFile → Option Constant → Result Field Unresolved → Type 0
 FieldOfConstant family f (Some (constants.Fieldref class n)) result =
-    FindsField family (class_name_at f class) (key_at f n) result
+    FindsField family f (class_name_at f class) (key_at f n) result
 FieldOfConstant family f _ result = result ≡ Err NoReference
 
 abbrev pub MethodOfConstant : Family → ClassFile → Option Constant → Result Method Unresolved → Type 0
 MethodOfConstant family f (Some (constants.Methodref class n)) result =
-    FindsMethod family owners.Class (class_name_at f class) (key_at f n) result
+    FindsMethod family f owners.Class (class_name_at f class) (key_at f n) result
 MethodOfConstant family f (Some (constants.InterfaceMethodref class n)) result
-    = FindsMethod family owners.Interface (class_name_at f class) (key_at f n) result
+    = FindsMethod family f owners.Interface (class_name_at f class) (key_at f n) result
 MethodOfConstant family f _ result = result ≡ Err NoReference
 
 -- What the Fieldref at an index of a class file resolves to.

@@ -14,7 +14,7 @@ use Rattle.hierarchy.specs.declared.member.Field.{Field}
 use Rattle.hierarchy.specs.declared.member.Unresolved.{Unresolved}
 use Rattle.loading.specs.Names.{class_name_at, text_at}
 use Rattle.loading.specs.Families.{Family}
-use Rattle.loading.specs.ClassIds.{StandsFor}
+use Rattle.loading.specs.ClassIds.{Denotes}
 use Rattle.program.specs.References.{key_at, ResolvesFieldAt, ResolvesMethodAt}
 use Rattle.program.specs.Fields.{field_kind}
 use Rattle.program.specs.FieldTargets.{targeted}
@@ -40,7 +40,7 @@ descriptor_index_at f index = descriptor_index_of (slice_get f.constants index)
 -- The reference to a method at an index, which names the class at index c, and the name and type at index n.
 pub record IsMethodReference (family : Family) (f : ClassFile) (index c n : ℕ) (reference : MethodReference) : Type 0
   where
-    pub class : StandsFor family (class_name_at f c) reference.class
+    pub class : Denotes family f (class_name_at f c) reference.class
     pub descriptor : reference.descriptor ≡ descriptor_index_at f n
     pub target : ResolvesMethodAt family f index reference.target
 
@@ -56,7 +56,7 @@ pub data IsRuntimeConstant (family : Family) (strings : List (List ℕ)) (f : Cl
   double : {high low : ℕ} → IsRuntimeConstant family strings f index (constants.Double high low) runtime.Double
   string : {utf8 n : ℕ} → slice_get strings n ≡ Some (text_at f utf8)
       → IsRuntimeConstant family strings f index (constants.String utf8) (runtime.String n)
-  class : {name : ℕ} {x : Option ClassId} → StandsFor family (class_name_at f index) x
+  class : {name : ℕ} {x : Option ClassId} → Denotes family f (class_name_at f index) x
       → IsRuntimeConstant family strings f index (constants.Class name)
       (runtime.Class x)
   field : {c n : ℕ} (r : Result Field Unresolved) → ResolvesFieldAt family f index r

@@ -2,7 +2,7 @@
 
 ghost use Rattle.std.specs.Prelude.{◌≡◌, IfOk};
 ghost use Rattle.std.specs.List.{AllZip};
-ghost use Rattle.loading.specs.ClassIds.{StandsFor};
+ghost use Rattle.loading.specs.ClassIds.{Denotes};
 ghost use Rattle.loading.specs.Names.{class_name_at, text_at};
 ghost use Rattle.program.specs.Handlers.{IsCaught, IsHandler};
 ghost use Rattle.program.specs.Signatures.{IsReturnKindOf, AreSignatures};
@@ -14,7 +14,7 @@ use crate::runtime_constant::RuntimeConstant;
 use crate::signature::{ReturnKind, Signatures};
 use built_in::class_id::ClassId;
 use classfile::{ClassFile, ExceptionHandler, Member};
-use loading::class_named;
+use loading::class_in;
 use loading::family::Family;
 use loading::names::class_name_at;
 use std::alloc::{AllocError, Global};
@@ -44,11 +44,11 @@ impl<'a> LinkedFile<'a> {
     /// looked up again for each entry of an exception table.
     fn class_at(&self, index: u16) -> Option<ClassId>
         requires { HoldsClasses self.now.family.now self.now.file.now self.now.runtime_pool.now }
-        ensures { StandsFor self.now.family.now (class_name_at self.now.file.now index) result }
+        ensures { Denotes self.now.family.now self.now.file.now (class_name_at self.now.file.now index) result }
     {
         match self.runtime_pool.at(index) {
             Some(RuntimeConstant::Class(class)) => class,
-            _ => class_named(self.family, class_name_at(self.file, index)),
+            _ => class_in(self.family, self.file, class_name_at(self.file, index)),
         }
     }
 

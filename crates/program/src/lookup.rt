@@ -2,12 +2,13 @@
 //! invokespecial).
 
 ghost use Rattle.std.specs.Prelude.{◌≡◌, ◌↔◌, ℕ, OnOk};
+ghost use Rattle.loading.specs.Families.{substitute_in};
 ghost use Rattle.hierarchy.specs.Initialization.{AreSuperclasses};
 ghost use Rattle.program.specs.References.{ResolvesFieldOf, ResolvesMethodOf};
 ghost use Rattle.hierarchy.specs.Resolution.{Selects};
 ghost use Rattle.hierarchy.specs.Selectable.{AddsNamedLike, IsSelectable, IsAmong};
 ghost use Rattle.hierarchy.specs.Selection.{selected, special, special_start};
-ghost use Rattle.hierarchy.specs.Subtypes.{is_below};
+ghost use Rattle.hierarchy.specs.Subtypes.{has_slots_of, is_below};
 ghost use Rattle.hierarchy.specs.Initialization.{given_superclasses};
 ghost use Rattle.std.specs.Prelude.{◌==◌};
 ghost use Rattle.std.specs.List.{list_any};
@@ -16,7 +17,7 @@ ghost use Rattle.program.specs.steps.PoolFields.{found_field, pool_field, pool_m
 
 use crate::linked_program::Program;
 use crate::runtime_constant::{FieldTarget, RuntimeConstant};
-use built_in::class_id::ClassId;
+use built_in::class_id::{BuiltIn, ClassId};
 use hierarchy::member::{DeclaredMember, Field, Method, Unresolved};
 use hierarchy::selectable::Selectable;
 use hierarchy::superclasses::Superclasses;
@@ -61,6 +62,21 @@ impl Program {
         ensures { result ≡ is_below self.now.family class other }
     {
         self.hierarchy.is_below(class, other)
+    }
+
+    /// Whether objects of a class have the slots of a built-in one, which it is or ends below.
+    pub fn has_slots_of(&self, class: ClassId, other: BuiltIn) -> bool
+        ensures { result ≡ has_slots_of self.now.family other class }
+    {
+        self.hierarchy.has_slots_of(class, other)
+    }
+
+    /// The number of a built-in class's substitute: of the class that stands for it. None where the library is not
+    /// there.
+    pub fn substitute(&self, class: BuiltIn) -> Option<u32>
+        ensures { result ≡ substitute_in self.now.family class }
+    {
+        self.hierarchy.family().substitute(class)
     }
 
     /// Whether the second of two given classes is a superclass of the first.

@@ -2,13 +2,13 @@
 
 ghost use Rattle.std.specs.Prelude.{◌≡◌, Some, IfOk, slice_set};
 ghost use Rattle.loading.specs.Families.{file_in};
-ghost use Rattle.loading.specs.ClassIds.{StandsFor};
+ghost use Rattle.loading.specs.ClassIds.{Denotes};
 ghost use Rattle.loading.specs.Names.{class_name_at};
 ghost use Rattle.program.specs.steps.NamedClasses.{found, AreNamed};
 
 use built_in::class_id::ClassId;
 use classfile::{ClassFile, Constant};
-use loading::class_named;
+use loading::class_in;
 use loading::family::Family;
 use loading::names::{class_name_at, text_at};
 use std::alloc::{AllocError, Global};
@@ -64,7 +64,7 @@ impl<'a> NamedClasses<'a> {
 
     /// The class that the Class at an index names.
     pub(crate) fn class_at(&self, index: u16) -> Option<ClassId>
-        ensures { StandsFor self.now.family (class_name_at self.now.file index) result }
+        ensures { Denotes self.now.family self.now.file (class_name_at self.now.file index) result }
     {
         named_at(self.family, self.file, &self.classes, index)
     }
@@ -122,7 +122,7 @@ fn note(
     if noted(classes, *name).is_some() {
         return;
     }
-    let class = class_named(family, text_at(file, *name));
+    let class = class_in(family, file, text_at(file, *name));
     set(classes, *name, class);
 }
 
@@ -154,12 +154,12 @@ fn named_at(
     index: u16,
 ) -> Option<ClassId>
     requires { AreNamed family.now file.now classes.now }
-    ensures { StandsFor family.now (class_name_at file.now index) result }
+    ensures { Denotes family.now file.now (class_name_at file.now index) result }
 {
     if let Some(Constant::Class { name }) = file.constant(index) {
         if let Some(class) = noted(classes, *name) {
             return class;
         }
     }
-    class_named(family, class_name_at(file, index))
+    class_in(family, file, class_name_at(file, index))
 }

@@ -3,7 +3,6 @@ use Rattle.std.proofs.Common.{◌≡◌, ℕ, true, List, Option, Some, None, re
 use Rattle.std.proofs.Common.{slice_get}
 use Rattle.std.proofs.lemmas.Option.{same_Some}
 use Rattle.std.specs.Option.{IfSome}
-use Rattle.built_in.specs.declared.class_id.BuiltIn.TheVariants.{Enum}
 use Rattle.built_in.specs.declared.class_id.ClassId.{ClassId}
 use Rattle.built_in.specs.declared.class_id.ClassId.TheVariants.{Given, BuiltIn, Array}
 use Rattle.built_in.specs.declared.method.BuiltInMethod.{BuiltInMethod}
@@ -26,7 +25,7 @@ use Rattle.frame_instructions.specs.declared.operand_kind.OperandKind.TheVariant
 use Rattle.frame_instructions.specs.Instructions.{is_null}
 use Rattle.frame_instructions.specs.OperandKinds.{top_as}
 use Rattle.machine.specs.ObjectParts.{slot_in, look_into_slot, set_named, look_into_named}
-use Rattle.machine.specs.Objects.{is_of}
+use Rattle.machine.specs.Objects.{is_enum_object}
 use Rattle.machine.specs.Members.{on_enum, name_once, new_enum, replaced, or_slot, enum_part, clone_if_array}
 use Rattle.machine.specs.Members.{member_row}
 use Rattle.machine.specs.RowParts.{halts, drops}
@@ -44,17 +43,17 @@ module _ (P : Tables) (fits : IsFamily P.family) (within : AreParentsWithin P.fa
 
   -- ---- enums
 
-  on_enum_keeps : (v : Value) (go : Name → Row) → ((x : Name) → is_of P (BuiltIn Enum) (types x) ≡ true → Keeps (go x))
+  on_enum_keeps : (v : Value) (go : Name → Row) → ((x : Name) → is_enum_object P (types x) ≡ true → Keeps (go x))
       → Keeps (on_enum P v go)
   on_enum_keeps v go on =
-      on_object_keeps P types v _ (λ x known. either P types (is_of P (BuiltIn Enum) (types x)) (go x) _ (on x) tt)
+      on_object_keeps P types v _ (λ x known. either P types (is_enum_object P (types x)) (go x) _ (on x) tt)
 
   slot_suits : (c i : ℕ) (kind : FieldKind) (v : Value) → slice_get (slots_of P.family c) i ≡ Some kind
       → suits kind v ≡ true → SuitsSlot P (Some (Given c)) i v
   slot_suits c i kind v at h =
       λ other there. subst (λ k. suits k v ≡ true) (same_Some kind other (sym at ∙ there)) h
 
-  name_fits : (o : Option ClassId) (v : Value) → is_of P (BuiltIn Enum) o ≡ true → suits kinds.Reference v ≡ true
+  name_fits : (o : Option ClassId) (v : Value) → is_enum_object P o ≡ true → suits kinds.Reference v ≡ true
       → SuitsSlot P o 0 v
   name_fits None v is h = absurd cc
   name_fits (Some (BuiltIn b)) v is h = tt
@@ -62,7 +61,7 @@ module _ (P : Tables) (fits : IsFamily P.family) (within : AreParentsWithin P.fa
   name_fits (Some (Given c)) v is h =
       slot_suits c 0 kinds.Reference v (enum_slots P.family fits within c is).0 h
 
-  ordinal_fits : (o : Option ClassId) (v : Value) → is_of P (BuiltIn Enum) o ≡ true → suits kinds.Int v ≡ true
+  ordinal_fits : (o : Option ClassId) (v : Value) → is_enum_object P o ≡ true → suits kinds.Int v ≡ true
       → SuitsSlot P o 1 v
   ordinal_fits None v is h = absurd cc
   ordinal_fits (Some (BuiltIn b)) v is h = tt
@@ -70,7 +69,7 @@ module _ (P : Tables) (fits : IsFamily P.family) (within : AreParentsWithin P.fa
   ordinal_fits (Some (Given c)) v is h = slot_suits c 1 kinds.Int v (enum_slots P.family fits within c is).1 h
 
   module _ (f : Frame) where
-    name_once_keeps : (x : Name) → is_of P (BuiltIn Enum) (types x) ≡ true → (name ordinal : Value)
+    name_once_keeps : (x : Name) → is_enum_object P (types x) ≡ true → (name ordinal : Value)
         → suits kinds.Reference name ≡ true → suits kinds.Int ordinal ≡ true → (o : Option Value)
         → Keeps (name_once x name ordinal f o)
     name_once_keeps x is name ordinal hn ho (Some values.Null) =

@@ -22,8 +22,8 @@ use Rattle.built_in.specs.declared.class_id.ClassId.TheVariants as classes
 use Rattle.vm_state.specs.declared.ends.FaultKind.{FaultKind}
 use Rattle.vm_state.specs.declared.ends.FaultKind.TheVariants.{Fault}
 use Rattle.vm_state.specs.declared.value.Value.TheVariants as values
-use Rattle.loading.specs.Families.{Family, file_in}
-use Rattle.loading.specs.ClassIds.{IsNamed, StandsFor}
+use Rattle.loading.specs.Families.{Family, file_in, substitute_in}
+use Rattle.loading.specs.ClassIds.{IsNamed, Denotes, given_or, is_file_of_substitute}
 use Rattle.loading.specs.Names.{class_name_at}
 use Rattle.loading.proofs.PlaceLemmas.{mapped_at}
 use Rattle.hierarchy.specs.declared.member.Field.{Field}
@@ -340,15 +340,27 @@ module _ (P : Tables) (is : IsProgram P) where
                 (slice_get-get_or f.constants index constants.Unusable within) h,
           )
 
-  has_dimensions : {name : List ℕ} {a : ArrayType} → IsNamed P.family name (classes.Array a) → 1 ≤ a.dimensions
-  has_dimensions (IsNamed.array least most text is) = least
+  -- no substitute is an array class
+  no_array : (a : ArrayType) (b : BuiltIn) (own : Bool) (d : Option ℕ)
+      → classes.Array a ≡ cond own (classes.BuiltIn b) (given_or (classes.BuiltIn b) d) → ⊥
+  no_array a b true d same = cc
+  no_array a b false None same = cc
+  no_array a b false (Some n) same = cc
+
+  has_dimensions : (f : ClassFile) (name : List ℕ) (a : ArrayType)
+      → Denotes P.family f name (Some (classes.Array a)) → 1 ≤ a.dimensions
+  has_dimensions f name a (classes.Array b, IsNamed.array least most text is, same) =
+      (let count : a.dimensions ≡ b.dimensions = cc in omega (arith, least))
+  has_dimensions f name a (classes.Given c, named, same) = absurd cc
+  has_dimensions f name a (classes.BuiltIn b, named, same) =
+      absurd (no_array a b (is_file_of_substitute f (classes.BuiltIn b)) (substitute_in P.family b) same)
 
   array_named : {f : ClassFile} {index : ℕ} {constant : Constant} {held : RuntimeConstant} (a : ArrayType)
       → held ≡ runtime.Class (Some (classes.Array a))
       → IsRuntimeConstant P.family P.strings f index constant held → 1 ≤ a.dimensions
   array_named {f = f} {index = index} a e (IsRuntimeConstant.class {x = x} h) =
       let same : x ≡ Some (classes.Array a) = cc in
-      has_dimensions (subst (λ o. StandsFor P.family (class_name_at f index) o) same h)
+      has_dimensions f (class_name_at f index) a (subst (λ o. Denotes P.family f (class_name_at f index) o) same h)
   array_named a e IsRuntimeConstant.int = absurd cc
   array_named a e IsRuntimeConstant.long = absurd cc
   array_named a e IsRuntimeConstant.float = absurd cc

@@ -1,7 +1,10 @@
 -- What may run and be used by the scopes of instructions is what may by their code.
 use Rattle.std.proofs.Common.{◌≡◌, inl, inr, ℕ, Bool, true, false, cond, Option, Some, None}
 use Rattle.std.proofs.Common.{if◌then◌else◌, is_some, refl, sym, ap, subst, option_map, ◌∙◌}
+use Rattle.std.specs.List.{find}
+use Rattle.std.specs.Option.{option_or}
 use Rattle.built_in.specs.Keys.{NameAndType}
+use Rattle.built_in.specs.declared.class_id.BuiltIn.TheVariants as builtins
 use Rattle.built_in.specs.declared.class_id.ClassId.{ClassId}
 use Rattle.built_in.specs.declared.class_id.ClassId.TheVariants as class
 use Rattle.built_in.specs.declared.method.BuiltInMethod.{BuiltInMethod}
@@ -11,12 +14,14 @@ use Rattle.vm_state.specs.declared.frame.Activity.{Activity}
 use Rattle.vm_state.specs.declared.frame.Activity.TheVariants.{Method}
 use Rattle.semantics.specs.Bounds.{MayCall}
 use Rattle.semantics.specs.Bounds as bounds
-use Rattle.loading.specs.Families.{Family}
+use Rattle.loading.specs.Families.{Family, substitute_in}
+use Rattle.loading.specs.ClassIds.{given_or}
 use Rattle.hierarchy.specs.declared.member.Method.{Method as ResolvedMethod}
 use Rattle.hierarchy.specs.declared.member.Method.TheVariants as methods
 use Rattle.hierarchy.specs.MemberLookup.{is_inherited, is_private, flags_in, key_in}
 use Rattle.hierarchy.specs.Selectable.{IsSelectable}
-use Rattle.hierarchy.specs.Selection.{found_from, found_if, selected}
+use Rattle.hierarchy.specs.Selection.{has_key, array_members, found_from, found_in_given, found_for, found_for_if}
+use Rattle.hierarchy.specs.Selection.{selected}
 use Rattle.hierarchy.proofs.SelectableLemmas.{found_declares, by_key, selects_built_in, selects_given, private_alone}
 use Rattle.program.specs.Tables.{Tables, implementation_at, initializer_in}
 use Rattle.program.specs.declared.class.Implementation.{Implementation}
@@ -38,10 +43,25 @@ module _ (family : Family) (d k : ℕ) where
 
   from_key : (m : ResolvedMethod) (key : NameAndType)
       → ((e : ℕ) → selected family (class.Given e) m ≡ found_from is_inherited family key (class.Given e))
-      → (x : ClassId) → found_from is_inherited family key x ≡ Some (methods.Given d k) → IsSelectable family m d k
+      → (x : ClassId) → found_for family key x ≡ Some (methods.Given d k) → IsSelectable family m d k
   from_key m key same (class.Given e) h = (by_key family m key same d k).1 (found_declares family key e d k h)
-  from_key m key same (class.BuiltIn b) h = absurd (no_member _ h)
-  from_key m key same (class.Array a) h = absurd (no_member _ h)
+  from_key m key same (class.BuiltIn b) h = from_start (substitute_in family b) h
+    where
+      -- a substitute is a given class
+      from_start : (o : Option ℕ)
+          → found_from is_inherited family key (given_or (class.BuiltIn b) o) ≡ Some (methods.Given d k)
+          → IsSelectable family m d k
+      from_start None h = absurd (no_member _ h)
+      from_start (Some e) h = (by_key family m key same d k).1 (found_declares family key e d k h)
+  from_key m key same (class.Array a) h =
+      beyond (find (has_key key) array_members) (substitute_in family builtins.Object) h
+    where
+      beyond : (own : Option BuiltInMethod) (o : Option ℕ)
+          → option_or (option_map (λ m. methods.BuiltIn m) own) (found_in_given family key o)
+          ≡ Some (methods.Given d k) → IsSelectable family m d k
+      beyond (Some member) o h = absurd cc
+      beyond None None h = absurd cc
+      beyond None (Some e) h = (by_key family m key same d k).1 (found_declares family key e d k h)
 
   pub selected_given : (x : ClassId) (m : ResolvedMethod) → selected family x m ≡ Some (methods.Given d k)
       → IsSelectable family m d k
@@ -51,13 +71,13 @@ module _ (family : Family) (d k : ℕ) where
   selected_given x (methods.Given c j) h = by_flags (is_private (flags_in family c j)) refl h
     where
       by_name : (o : Option NameAndType) → key_in family c j ≡ o → is_private (flags_in family c j) ≡ false
-          → found_if is_inherited family x o ≡ Some (methods.Given d k) → IsSelectable family (methods.Given c j) d k
+          → found_for_if family x o ≡ Some (methods.Given d k) → IsSelectable family (methods.Given c j) d k
       by_name None is other h = absurd cc
       by_name (Some key) is other h =
           from_key (methods.Given c j) key (selects_given family c j key other is) x h
 
       by_flags : (b : Bool) → is_private (flags_in family c j) ≡ b
-          → cond b (Some (methods.Given c j)) (found_if is_inherited family x (key_in family c j))
+          → cond b (Some (methods.Given c j)) (found_for_if family x (key_in family c j))
           ≡ Some (methods.Given d k)
           → IsSelectable family (methods.Given c j) d k
       by_flags true private h =

@@ -10,7 +10,7 @@ use Rattle.built_in.specs.declared.class_id.ClassId.{ClassId}
 use Rattle.built_in.specs.declared.class_id.ClassId.TheVariants as classes
 use Rattle.loading.specs.ClassIds.{element_text as descriptor_of}
 use Rattle.loading.specs.Families.{Family, name_in}
-use Rattle.loading.specs.steps.BuiltIns.{all_built_in}
+use Rattle.built_in.specs.ClassNames.{all_built_in}
 use Rattle.image_format.specs.Names.{class_name}
 
 -- the numbers below a number

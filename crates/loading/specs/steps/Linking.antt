@@ -1,6 +1,6 @@
 -- The steps from class files to a family: files in the order of their names, and their parents by number.
-use Rattle.std.specs.Prelude.{◌≡◌, ◌≢◌, ℕ, ◌<◌, ◌++◌, ◌⊎◌, Bool, true, false, not, List, map, Option, Some, None}
-use Rattle.std.specs.Prelude.{slice_get}
+use Rattle.std.specs.Prelude.{◌≡◌, ◌≢◌, ℕ, ◌<◌, ◌++◌, ◌⊎◌, Bool, true, false, not, ◌&&◌, ◌||◌, List, map, Option}
+use Rattle.std.specs.Prelude.{Some, None, slice_get, if◌then◌else◌}
 use Rattle.std.specs.Prelude.{option_map, length}
 use Rattle.std.specs.List.{All, Contains}
 use Rattle.classfile.specs.ClassFile.{ClassFile}
@@ -10,6 +10,7 @@ use Rattle.graph.specs.Rows.{Rows, successors_of}
 use Rattle.built_in.specs.declared.class_id.BuiltIn.{BuiltIn}
 use Rattle.built_in.specs.declared.class_id.BuiltIn.TheVariants as builtins
 use Rattle.built_in.specs.ClassNames.{name_of_built_in}
+use Rattle.built_in.specs.Subclasses.{number_of_built_in}
 use Rattle.loading.specs.declared.fault.BadParent.{BadParent}
 use Rattle.loading.specs.declared.fault.BadParent.TheVariants as bad
 use Rattle.loading.specs.declared.fault.LinkFault.{LinkFault}
@@ -19,7 +20,8 @@ use Rattle.loading.specs.declared.given.Superclass.{Superclass}
 use Rattle.loading.specs.declared.given.Superclass.TheVariants as super
 use Rattle.loading.specs.declared.parents.Parents.{Parents}
 use Rattle.loading.specs.Names.{name_of, superclass_of, interfaces_of, is_interface, Precedes}
-use Rattle.loading.specs.Families.{Family, passes, name_in, superclass_name, superclass_in}
+use Rattle.loading.specs.Library.{is_own, substitute_among, superclass_meant}
+use Rattle.loading.specs.Families.{Family, files_in, passes, name_in, superclass_name, superclass_in}
 use Rattle.loading.specs.Families.{superclasses_in, interfaces_in, is_interface_in, parents_in, given_superclass}
 use Rattle.loading.specs.Families.{IsAncestor}
 use Rattle.loading.specs.Files.{IsTaken, IsUnknown, IsBuiltIn, IsGivenClass, HasLeastBadParent, No}
@@ -56,6 +58,12 @@ pub record AreNamed (files : List ClassFile) : Type 0 where
   pub free : No (IsTaken files)
   pub plain : ArePlain files
 
+-- ---- substitutes
+
+-- by the numbers of the built-in classes: those of their substitutes, or none at all
+abbrev pub AreSubstitutes : List ClassFile → List ℕ → Type 0
+AreSubstitutes files numbers = (b : BuiltIn) → slice_get numbers (number_of_built_in b) ≡ substitute_among files b
+
 -- ---- parents by number (JVMS 5.3.5)
 
 abbrev pub is_closed : BuiltIn → Bool
@@ -64,10 +72,27 @@ is_closed builtins.System = true
 is_closed builtins.PrintStream = true
 is_closed _ = false
 
--- it is no interface, and not closed to subclasses
-abbrev pub may_be_extended : List ClassFile → Superclass → Bool
-may_be_extended files (super.Given d) = not (is_interface_at files d)
-may_be_extended files (super.BuiltIn class) = not (is_closed class)
+abbrev pub given_or : Superclass → Option ℕ → Superclass
+given_or class None = class
+given_or class (Some d) = super.Given d
+
+-- the class that one of this name is, as the superclass of a file
+abbrev pub meant : List ClassFile → ClassFile → Superclass → Superclass
+meant files f (super.Given d) = super.Given d
+meant files f (super.BuiltIn b) = if is_interface f || is_own files f (name_of_built_in b) then super.BuiltIn b
+    else given_or (super.BuiltIn b) (substitute_among files b)
+
+abbrev pub is_closed_for : List ClassFile → ClassFile → Superclass → Bool
+is_closed_for files f (super.Given d) = false
+is_closed_for files f (super.BuiltIn b) = is_closed b && not (is_own files f (name_of_built_in b))
+
+abbrev pub is_interface_class : List ClassFile → Superclass → Bool
+is_interface_class files (super.Given d) = is_interface_at files d
+is_interface_class files (super.BuiltIn b) = false
+
+-- a class of this name is not closed to subclasses, and no interface
+abbrev pub may_be_extended : List ClassFile → ClassFile → Superclass → Bool
+may_be_extended files f class = not (is_closed_for files f class) && not (is_interface_class files (meant files f class))
 
 abbrev pub is_object : Superclass → Bool
 is_object (super.BuiltIn builtins.Object) = true
@@ -76,19 +101,21 @@ is_object _ = false
 pub record IsSuperclass (files : List ClassFile) (f : ClassFile) (class : Superclass) : Type 0 where
   pub name : List ℕ
   pub named : superclass_of f ≡ Some name
-  pub among : name_among files class ≡ Some name
-  pub extended : may_be_extended files class ≡ true
-  pub object : is_interface f ≡ true → is_object class ≡ true
+  pub of_name : Superclass
+  pub among : name_among files of_name ≡ Some name
+  pub extended : may_be_extended files f of_name ≡ true
+  pub object : is_interface f ≡ true → is_object of_name ≡ true
+  pub is : class ≡ meant files f of_name
 
 pub data HasBadSuperclass (files : List ClassFile) (f : ClassFile) : BadParent → Type 0 where
   none_named : superclass_of f ≡ None → HasBadSuperclass files f bad.NoSuperclass
   unknown_class : {name : List ℕ} → superclass_of f ≡ Some name → IsUnknown files name
       → HasBadSuperclass files f bad.UnknownSuperclass
   not_extended : (class : Superclass) (name : List ℕ) → superclass_of f ≡ Some name → name_among files class ≡ Some name
-      → may_be_extended files class ≡ false → HasBadSuperclass files f bad.NoClass
+      → may_be_extended files f class ≡ false → HasBadSuperclass files f bad.NoClass
   not_below_object : (class : Superclass) (name : List ℕ) → superclass_of f ≡ Some name
       → name_among files class ≡ Some name
-      → may_be_extended files class ≡ true → is_interface f ≡ true → is_object class ≡ false
+      → may_be_extended files f class ≡ true → is_interface f ≡ true → is_object class ≡ false
       → HasBadSuperclass files f bad.NotObject
 
 pub record AreInterfaces (files : List ClassFile) (f : ClassFile) (numbers : List ℕ) : Type 0 where
@@ -132,7 +159,8 @@ pub record AreLinked (family : Family) : Type 0 where
       → Precedes a b
   pub free : (c : ℕ) (b : BuiltIn) → name_in family c ≢ Some (name_of_built_in b)
   pub plain : (c : ℕ) (name : List ℕ) → name_in family c ≡ Some name → IsNoArray name
-  pub superclass_names : All (λ (c : GivenClass). superclass_of c.file ≡ superclass_name family c.superclass) family
+  pub superclass_names : All
+      (λ (c : GivenClass). superclass_meant (files_in family) c.file ≡ superclass_name family c.superclass) family
   pub interface_names : All (λ (c : GivenClass). map Some (interfaces_of c.file) ≡ map (name_in family) c.interfaces)
       family
   pub classes : (c d : ℕ) → Contains (superclasses_in family c) d → is_interface_in family d ≡ false

@@ -2,7 +2,7 @@
 use Rattle.std.specs.Prelude.{◌≡◌, ℕ, List, Option, Some, None, slice_index_or}
 use Rattle.classfile.specs.ClassFile.{ClassFile}
 use Rattle.built_in.specs.declared.class_id.ClassId.{ClassId}
-use Rattle.loading.specs.ClassIds.{StandsFor}
+use Rattle.loading.specs.ClassIds.{Denotes}
 use Rattle.loading.specs.Families.{Family}
 use Rattle.loading.specs.Names.{text_at}
 
@@ -18,4 +18,4 @@ found classes name = slice_index_or classes name None
 -- each is what its text stands for
 abbrev pub AreNamed : Family → ClassFile → List (Option (Option ClassId)) → Type 0
 AreNamed family f classes = (name : ℕ) (x : Option ClassId) → found classes name ≡ Some x
-    → StandsFor family (text_at f name) x
+    → Denotes family f (text_at f name) x

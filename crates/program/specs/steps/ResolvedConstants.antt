@@ -11,7 +11,7 @@ use Rattle.program.specs.declared.runtime_constant.FieldTarget.{FieldTarget}
 use Rattle.hierarchy.specs.declared.member.Field.{Field}
 use Rattle.hierarchy.specs.declared.member.Unresolved.{Unresolved}
 use Rattle.loading.specs.Families.{Family}
-use Rattle.loading.specs.ClassIds.{StandsFor}
+use Rattle.loading.specs.ClassIds.{Denotes}
 use Rattle.loading.specs.Names.{class_name_at}
 use Rattle.program.specs.References.{key_at, ResolvesFieldAt}
 use Rattle.program.specs.Fields.{field_kind}
@@ -43,7 +43,7 @@ IsFieldConstant family f index n held = (r : Result Field Unresolved) × Resolve
 -- each class of a run-time constant pool is the one that its entry names
 abbrev pub HoldsClasses : Family → ClassFile → List RuntimeConstant → Type 0
 HoldsClasses family f pool = (index : ℕ) (x : Option ClassId) → slice_get pool index ≡ Some (runtime.Class x)
-    → StandsFor family (class_name_at f index) x
+    → Denotes family f (class_name_at f index) x
 
 -- each of these entries has its run-time constant
 abbrev pub AreRuntimeConstants : Family → List (List ℕ) → ClassFile → List RuntimeConstant → Type 0

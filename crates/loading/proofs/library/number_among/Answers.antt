@@ -4,7 +4,7 @@ use Rattle.std.specs.Ordering.{nat_cmp}
 use Rattle.std.proofs.lemmas.Fn.{always_returns_same}
 use Rattle.loading.specs.Names.{name_of}
 use Rattle.loading.proofs.LinkingPlaceLemmas.{found_at_place, not_found, place_of}
-use Rattle.loading.proofs.parents.number_among.Goals as goal
+use Rattle.loading.proofs.library.number_among.Goals as goal
 
 pub returns-in-Ok : goal.returns-in-Ok
 returns-in-Ok c =
