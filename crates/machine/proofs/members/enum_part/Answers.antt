@@ -19,5 +19,6 @@ returns-clause-gives g c =
     (g.S.Store.run c.args.by (g.S.Store.state c.args.store.now p)) _ _ c.read_part.new.frame c.read_part.result
     (enum_asked (g.S.Store.run c.args.by (g.S.Store.state c.args.store.now p)) c.args.program.now c.args.slot
     c.args.receiver c.args.frame.now c.in-Some.object c.in_ok-class_of.field-0 (sym c.name_of.ensures ∙ c.in-Some.is)
-    (c.in_ok-class_of.ensures p) (sym c.is_of.ensures ∙ c.if-not-is_of.false))
+    (c.in_ok-class_of.ensures p) (sym c.is_enum_object.ensures ∙
+    c.if-not-is_enum_object.false))
     (c.read_part.ensures.gives p)
