@@ -137,7 +137,9 @@ fn lack_of(program: &Program, method: DeclaredMember) -> Option<FaultKind>
 {
     match program.implementation(method.class, method.index) {
         Some(Implementation::Abstract) => Some(FaultKind::Missing),
-        Some(Implementation::Unsupported) => Some(FaultKind::Unsupported),
+        Some(Implementation::Unsupported | Implementation::Native(_)) => {
+            Some(FaultKind::Unsupported)
+        }
         Some(Implementation::Code(_)) | None => None,
     }
 }

@@ -81,7 +81,11 @@ fn push_unit(bytes: &mut Vec<u8>, unit: u16) -> Result<(), AllocError>
 }
 
 /// The units of bytes that are modified UTF-8. Of other bytes there is a list of units too.
-pub(crate) fn units_of(alloc: Global, bytes: &[u8]) -> Result<Vec<u16>, AllocError>
+///
+/// # Errors
+///
+/// `AllocError` where memory runs out.
+pub fn units_of(alloc: Global, bytes: &[u8]) -> Result<Vec<u16>, AllocError>
     ensures { IfOk result (λ units. units.items ≡ units_of bytes.now) }
 {
     let mut units = Vec::new(alloc);

@@ -100,6 +100,17 @@ pub fn printed(alloc: Global, bytes: &[u8]) -> Result<String, AllocError>
     ensures { IfOk result (λ text. string_bytes text ≡ printed_units (units_of bytes.now)) }
 {
     let units = units_of(alloc, bytes)?;
+    text_of_units(alloc, units)
+}
+
+/// The text of 16-bit units for a reader, in UTF-8: surrogate pairs are joined, and a lone surrogate is `?`.
+///
+/// # Errors
+///
+/// `AllocError` where memory runs out.
+pub fn text_of_units(alloc: Global, units: Vec<u16>) -> Result<String, AllocError>
+    ensures { IfOk result (λ text. string_bytes text ≡ printed_units units.items) }
+{
     ClassName { units }.to_string(alloc)
 }
 
@@ -113,5 +124,5 @@ pub fn printed_unit(alloc: Global, unit: u16) -> Result<String, AllocError>
 {
     let mut units = Vec::new(alloc);
     units.push(unit)?;
-    ClassName { units }.to_string(alloc)
+    text_of_units(alloc, units)
 }

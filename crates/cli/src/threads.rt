@@ -36,7 +36,7 @@ fn add_thread_line(
     }
 }
 
-/// The line of a thread that ended by an exception of this class.
+/// The line of a thread that ended by an exception of this class. Of a substitute it shows the built-in class.
 fn add_uncaught(
     alloc: Global,
     text: &mut String,
@@ -44,6 +44,6 @@ fn add_uncaught(
     thread: usize,
     class: ClassId,
 ) -> Result<(), AllocError> {
-    let class = program.class_text(alloc, class)?;
+    let class = program.class_text(alloc, program.restored(class))?;
     writeln!(text, "thread {thread} uncaught {class}")
 }

@@ -99,6 +99,7 @@ pub(crate) fn call_site(
         }
         Some(Implementation::Abstract) => None,
         Some(Implementation::Unsupported) => None,
+        Some(Implementation::Native(_)) => None,
         None => None,
     }
 }

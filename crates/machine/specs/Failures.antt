@@ -13,16 +13,16 @@ use Rattle.machine.specs.RowParts.{needing, raises}
 -- by an exception of a class: the exception where it is an Error, or a new ExceptionInInitializerError in its place
 abbrev pub fails_by : Tables → Name → ClassId → Row
 fails_by P x class =
-    if is_below P.family class (BuiltIn Error) then Ends (Raise x class) else raises ExceptionInInitializerError
+    if is_below P.family class (BuiltIn Error) then Ends (Raise x class) else raises P ExceptionInInitializerError
 
 abbrev pub failing : Tables → Name → Row
 failing P x = AskClass x (λ o. needing o (fails_by P x))
 
 -- by a parent whose initialization failed
-abbrev pub orphaned : Row
-orphaned = raises NoClassDefFoundError
+abbrev pub orphaned : Tables → Row
+orphaned P = raises P NoClassDefFoundError
 
 -- by either
 abbrev pub failure : Tables → Option Name → Row
-failure P None = orphaned
+failure P None = orphaned P
 failure P (Some x) = failing P x

@@ -26,6 +26,7 @@ initializer_called c m None = None
 initializer_called c m (Some (implementations.Code code)) = Some (called c m code (replicate code.max_locals None))
 initializer_called c m (Some implementations.Abstract) = None
 initializer_called c m (Some implementations.Unsupported) = None
+initializer_called c m (Some (implementations.Native native)) = None
 
 abbrev pub initializer_frame_of : Tables → ℕ → Option ℕ → Option Frame
 initializer_frame_of P c None = None
@@ -57,7 +58,7 @@ program_of P = record {
   row = row P;
   handler = handler_of P;
   failing = λ c x. failing P x;
-  orphaned = λ c. orphaned;
+  orphaned = λ c. orphaned P;
   initializer = initializer_frame P;
   parents = order_in P;
   statics = statics_in P;

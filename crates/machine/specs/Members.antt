@@ -27,7 +27,7 @@ use Rattle.machine.specs.Objects.{is_enum_object}
 -- goes on with an object of Enum or of a class that ends below it, which a value refers to
 abbrev pub on_enum : Tables → Value → (Name → Row) → Row
 on_enum P v go =
-    with_object v (λ x. AskClass x (λ o. if is_enum_object P o then go x else halts faults.Fault))
+    with_object P v (λ x. AskClass x (λ o. if is_enum_object P o then go x else halts faults.Fault))
 
 -- an Enum object has a name, which is not null, and is given it once
 abbrev pub name_once : Name → Value → Value → Frame → Option Value → Row
@@ -68,8 +68,8 @@ clone_if_array x f (Some (Given c)) = halts faults.Fault
 clone_if_array x f (Some (BuiltIn b)) = halts faults.Fault
 clone_if_array x f None = halts faults.Fault
 
-abbrev pub clone_array : Value → Frame → Row
-clone_array v f = with_object v (λ x. AskClass x (clone_if_array x f))
+abbrev pub clone_array : Tables → Value → Frame → Row
+clone_array P v f = with_object P v (λ x. AskClass x (clone_if_array x f))
 
 -- ---- all of them
 
@@ -82,7 +82,7 @@ member_row P members.NewThrowableOfText count v f = drops count f
 member_row P members.NewEnum count v f = new_enum P v f
 member_row P members.EnumName count v f = enum_part P 0 v f
 member_row P members.EnumOrdinal count v f = enum_part P 1 v f
-member_row P members.CloneArray count v f = clone_array v f
+member_row P members.CloneArray count v f = clone_array P v f
 member_row P (members.Print what) count v f = halts faults.Fault
 member_row P (members.PrintLine what) count v f = halts faults.Fault
 member_row P members.EndLine count v f = halts faults.Fault

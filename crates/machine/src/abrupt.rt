@@ -11,6 +11,7 @@ use crate::kinds::{Actor, Conclusion, Stop};
 use crate::raising::trap;
 use crate::store::Store;
 use frame_instructions::trap::Trap;
+use program::Program;
 use std::alloc::Global;
 use vm_state::value::Fault;
 
@@ -60,18 +61,19 @@ impl From<Fault> for Abrupt {
 /// The store's reason. The store is as it was; where memory is refused, what definitions see of it.
 pub fn end_early<S: Store>(
     alloc: Global,
+    program: &Program,
     by: Actor,
     store: &mut S,
     abrupt: Abrupt,
 ) -> Result<Conclusion, Stop>
     ensures gives { (p : List Print) (row : Row) (f : Frame)
-        → EndsSo S.stopped (S.run by (S.state store.old p)) row abrupt
+        → EndsSo program.now S.stopped (S.run by (S.state store.old p)) row abrupt
         → Gives S.stopped (S.run by (S.state store.old p)) (S.run by (S.state store.new p)) row f result }
     ensures same { KeptBy S.state result store.old store.new }
     ensures frame { (f : Frame) → Untouched result f f }
 {
     match abrupt {
         Abrupt::Stopped(stop) => Err(stop),
-        Abrupt::Trapped(reason) => trap(alloc, by, store, reason),
+        Abrupt::Trapped(reason) => trap(alloc, program, by, store, reason),
     }
 }

@@ -2,6 +2,7 @@
 
 ghost use Rattle.std.specs.Prelude.{◌≡◌, List};
 ghost use Rattle.vm_state.specs.Output.{Print};
+ghost use Rattle.program.specs.Tables.{Tables};
 ghost use Rattle.machine.specs.Accesses.{Gives, Keeps};
 ghost use Rattle.machine.specs.Arrays.{is_checked, check_store, load_element, store_element};
 ghost use Rattle.machine.specs.steps.ArrayAccesses.{Finds, PassesOn, reach_loaded, reach_stored};
@@ -41,8 +42,8 @@ pub fn loaded<S: Store>(
     store: &S,
     kind: ElementKind,
 ) -> Result<Value, Abrupt>
-    ensures { (p : List Print) → Finds S.stopped (S.run by (S.state store.now p)) (reach_loaded kind frame.now)
-        result }
+    ensures { (P : Tables) (p : List Print) → Finds P S.stopped (S.run by (S.state store.now p))
+        (reach_loaded P kind frame.now) result }
 {
     let index = frame.cells.top_int()?;
     let array = second_reference(&frame.cells)?;
@@ -60,18 +61,19 @@ pub fn loaded<S: Store>(
 /// it.
 pub fn load_element<S: Store>(
     alloc: Global,
+    program: &Program,
     by: Actor,
     frame: &mut Frame,
     store: &mut S,
     kind: ElementKind,
 ) -> Result<Conclusion, Stop>
     ensures gives { (p : List Print) → Gives S.stopped (S.run by (S.state store.old p)) (S.run by (S.state store.new p))
-        (load_element kind frame.old) frame.new result }
+        (load_element program.now kind frame.old) frame.new result }
     ensures kept { Keeps S.state result store.old store.new frame.old frame.new }
 {
     match loaded(by, frame, store, kind) {
         Ok(value) => Ok(replace_two(frame, value)),
-        Err(abrupt) => end_early(alloc, by, store, abrupt),
+        Err(abrupt) => end_early(alloc, program, by, store, abrupt),
     }
 }
 
@@ -92,7 +94,7 @@ pub fn check_store<S: Store>(
     array: ArrayType,
     value: Value,
 ) -> Result<(), Abrupt>
-    ensures { (p : List Print) → PassesOn S.stopped (S.run by (S.state store.now p))
+    ensures { (p : List Print) → PassesOn program.now S.stopped (S.run by (S.state store.now p))
         (check_store program.now array value) result }
 {
     if !is_checked(value) {
@@ -119,7 +121,7 @@ pub fn stored<S: Store>(
     store: &S,
     kind: ElementKind,
 ) -> Result<Assignment, Abrupt>
-    ensures { (p : List Print) → Finds S.stopped (S.run by (S.state store.now p))
+    ensures { (p : List Print) → Finds program.now S.stopped (S.run by (S.state store.now p))
         (reach_stored program.now kind frame.now) result }
 {
     let value = top_stored(&frame.cells, stored_as(kind))?;
@@ -149,7 +151,7 @@ pub fn store_element<S: Store>(
 {
     let stored = match stored(program, by, frame, store, kind) {
         Ok(stored) => stored,
-        Err(abrupt) => return end_early(alloc, by, store, abrupt),
+        Err(abrupt) => return end_early(alloc, program, by, store, abrupt),
     };
     store.change(by, stored.element.name, stored.element.slot, stored.value)?;
     frame.cells.drop_many(3);

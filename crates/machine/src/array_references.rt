@@ -2,6 +2,7 @@
 
 ghost use Rattle.std.specs.Prelude.{◌≡◌, List, Some, None, IfOk, OnErr};
 ghost use Rattle.vm_state.specs.Output.{Print};
+ghost use Rattle.program.specs.Tables.{Tables};
 ghost use Rattle.vm_state.specs.Operands.{rest};
 ghost use Rattle.frame_instructions.specs.OperandKinds.{top_as};
 ghost use Rattle.vm_state.specs.declared.value.Name.{Name as ObjectName};
@@ -47,7 +48,7 @@ pub fn third_reference(cells: &Cells) -> Result<Value, Fault>
 
 /// The object that a reference is to.
 fn object_of(reference: Value) -> Result<Name, Trap>
-    ensures { (go : ObjectName → Row) → with_object reference go ≡ unless_trapped result go }
+    ensures { (P : Tables) (go : ObjectName → Row) → with_object P reference go ≡ unless_trapped P result go }
 {
     match name_of(reference) {
         Some(name) => Ok(name),
@@ -72,7 +73,8 @@ pub fn slot_at(index: i32, length: Option<i32>) -> Result<usize, Trap>
 
 /// The object that a reference is to which has to be an array's, with its class.
 fn array_at<S: Store>(by: Actor, store: &S, array: Value) -> Result<(Name, Option<ClassId>), Abrupt>
-    ensures { (p : List Print) → Finds S.stopped (S.run by (S.state store.now p)) (reach_array array) result }
+    ensures { (P : Tables) (p : List Print) → Finds P S.stopped (S.run by (S.state store.now p)) (reach_array P array)
+        result }
 {
     let name = object_of(array)?;
     let class = store.class_of(by, name)?;
@@ -90,8 +92,8 @@ pub fn element_at<S: Store>(
     array: Value,
     index: i32,
 ) -> Result<FoundElement, Abrupt>
-    ensures { (p : List Print) → Finds S.stopped (S.run by (S.state store.now p)) (reach_element kind array index)
-        result }
+    ensures { (P : Tables) (p : List Print) → Finds P S.stopped (S.run by (S.state store.now p))
+        (reach_element P kind array index) result }
 {
     let (name, class) = array_at(by, store, array)?;
     let array = served_type(kind, class)?;
@@ -105,7 +107,8 @@ pub fn element_at<S: Store>(
 /// # Errors
 /// What ends the instruction.
 pub fn length_of_top<S: Store>(by: Actor, frame: &Frame, store: &S) -> Result<i32, Abrupt>
-    ensures { (p : List Print) → Finds S.stopped (S.run by (S.state store.now p)) (reach_length frame.now) result }
+    ensures { (P : Tables) (p : List Print) → Finds P S.stopped (S.run by (S.state store.now p))
+        (reach_length P frame.now) result }
 {
     let array = top_as(&frame.cells, OperandKind::Reference)?;
     let (name, class) = array_at(by, store, array)?;

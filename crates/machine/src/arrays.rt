@@ -38,6 +38,7 @@ fn size_of(count: i32) -> Result<usize, Trap>
 #[tactic(auto, unfolding(crate::specs::Accesses::unless_refused))]
 fn make_array<S: Store>(
     alloc: Global,
+    program: &Program,
     by: Actor,
     frame: &mut Frame,
     store: &mut S,
@@ -45,7 +46,7 @@ fn make_array<S: Store>(
     zero: Value,
 ) -> Result<Conclusion, Stop>
     ensures gives { (p : List Print) → Gives S.stopped (S.run by (S.state store.old p)) (S.run by (S.state store.new p))
-        (make_array array zero frame.old) frame.new result }
+        (make_array program.now array zero frame.old) frame.new result }
     ensures kept { Keeps S.state result store.old store.new frame.old frame.new }
 {
     let Ok(count) = frame.cells.top_int() else {
@@ -53,7 +54,7 @@ fn make_array<S: Store>(
     };
     let size = match size_of(count) {
         Ok(size) => size,
-        Err(reason) => return trap(alloc, by, store, reason),
+        Err(reason) => return trap(alloc, program, by, store, reason),
     };
     let name = store.make_array(alloc, by, array, zero, size)?;
     Ok(replace_top(frame, Value::reference_to(name)))
@@ -62,17 +63,18 @@ fn make_array<S: Store>(
 /// `arraylength`.
 fn array_length<S: Store>(
     alloc: Global,
+    program: &Program,
     by: Actor,
     frame: &mut Frame,
     store: &mut S,
 ) -> Result<Conclusion, Stop>
     ensures gives { (p : List Print) → Gives S.stopped (S.run by (S.state store.old p)) (S.run by (S.state store.new p))
-        (array_length frame.old) frame.new result }
+        (array_length program.now frame.old) frame.new result }
     ensures kept { Keeps S.state result store.old store.new frame.old frame.new }
 {
     match length_of_top(by, frame, store) {
         Ok(length) => Ok(replace_top(frame, Value::Int(length))),
-        Err(abrupt) => end_early(alloc, by, store, abrupt),
+        Err(abrupt) => end_early(alloc, program, by, store, abrupt),
     }
 }
 
@@ -97,6 +99,7 @@ pub fn on_array<S: Store>(
         ArrayOperation::New(kind) => {
             make_array(
                 alloc,
+                program,
                 by,
                 frame,
                 store,
@@ -105,10 +108,10 @@ pub fn on_array<S: Store>(
             )
         }
         ArrayOperation::NewOfReferences(array) => {
-            make_array(alloc, by, frame, store, array, Value::Null)
+            make_array(alloc, program, by, frame, store, array, Value::Null)
         }
-        ArrayOperation::Length => array_length(alloc, by, frame, store),
-        ArrayOperation::Load(kind) => load_element(alloc, by, frame, store, kind),
+        ArrayOperation::Length => array_length(alloc, program, by, frame, store),
+        ArrayOperation::Load(kind) => load_element(alloc, program, by, frame, store, kind),
         ArrayOperation::Store(kind) => store_element(alloc, program, by, frame, store, kind),
     }
 }

@@ -191,18 +191,28 @@ fn is_static_target(program: &Program, method: Method) -> bool
     }
 }
 
-fn names_stream(class: Option<ClassId>) -> bool
-    ensures { result ≡ names_stream class }
+/// Whether a reference names `java.io.PrintStream`: the built-in class, or its substitute.
+fn names_stream(program: &Program, class: Option<ClassId>) -> bool
+    ensures { result ≡ names_stream program.now.family class }
 {
-    matches!(class, Some(ClassId::BuiltIn(BuiltIn::PrintStream)))
+    match class {
+        Some(ClassId::BuiltIn(class)) => matches!(class, BuiltIn::PrintStream),
+        Some(ClassId::Given(class)) => program.is_substitute(BuiltIn::PrintStream, class),
+        Some(ClassId::Array(_)) | None => false,
+    }
 }
 
-fn instance_call(caller: u32, reference: MethodReference, choice: Choice) -> InstanceCall
-    ensures { result ≡ instance_call caller reference choice }
+fn instance_call(
+    program: &Program,
+    caller: u32,
+    reference: MethodReference,
+    choice: Choice,
+) -> InstanceCall
+    ensures { result ≡ instance_call program.now.family caller reference choice }
 {
     InstanceCall {
         choice,
-        names_stream: names_stream(reference.class),
+        names_stream: names_stream(program, reference.class),
         caller,
         descriptor: reference.descriptor,
     }
@@ -236,7 +246,7 @@ fn virtual_callee(
             if is_static_target(program, method) {
                 return Err(FaultKind::Fault);
             }
-            let call = instance_call(caller, reference, Choice::Selected(method));
+            let call = instance_call(program, caller, reference, Choice::Selected(method));
             Ok(instance_operation(Some(method), call))
         }
         Err(Unresolved::Missing) => Err(FaultKind::Missing),
@@ -316,7 +326,7 @@ fn special_callee(
             let found = found_special(program, caller, method, reference.class);
             Ok(instance_operation(
                 found,
-                instance_call(caller, reference, Choice::Found(found)),
+                instance_call(program, caller, reference, Choice::Found(found)),
             ))
         }
         Err(Unresolved::Missing) => Err(FaultKind::Missing),

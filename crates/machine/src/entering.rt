@@ -36,6 +36,7 @@ pub fn initializer_frame(
         })),
         Some(Implementation::Abstract) => Ok(None),
         Some(Implementation::Unsupported) => Ok(None),
+        Some(Implementation::Native(_)) => Ok(None),
         None => Ok(None),
     }
 }

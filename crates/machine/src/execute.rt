@@ -32,19 +32,20 @@ use vm_state::value::Value;
 /// The end of an instruction of a method that touches its own frame alone, which is as it left it.
 fn end<S: Store>(
     alloc: Global,
+    program: &Program,
     by: Actor,
     frame: &Frame,
     store: &mut S,
     went: Result<(), Trap>,
 ) -> Result<Conclusion, Stop>
     ensures gives { (p : List Print) → Gives S.stopped (S.run by (S.state store.old p)) (S.run by (S.state store.new p))
-        (local_row (completed went frame.now)) frame.now result }
+        (local_row program.now (completed went frame.now)) frame.now result }
     ensures same { KeptBy S.state result store.old store.new }
     ensures trapped { (old : Frame) → OnErr went (frame.now ≡ old) → Untouched result old frame.now }
 {
     match went {
         Ok(()) => Ok(Conclusion::Stays),
-        Err(reason) => trap(alloc, by, store, reason),
+        Err(reason) => trap(alloc, program, by, store, reason),
     }
 }
 
@@ -68,9 +69,11 @@ fn execute_resolved<S: Store>(
         Resolved::PushInt(number) => Ok(push_number(frame, Value::Int(number))),
         Resolved::PushLong(number) => Ok(push_number(frame, Value::Long(number))),
         Resolved::PushText(text) => Ok(push_value(frame, Value::Text(text))),
-        Resolved::GetStatic(class, field) => get_static(alloc, by, frame, store, class, field),
+        Resolved::GetStatic(class, field) => {
+            get_static(alloc, program, by, frame, store, class, field)
+        }
         Resolved::PutStatic(kind, class, field) => {
-            put_static(alloc, by, frame, store, kind, class, field)
+            put_static(alloc, program, by, frame, store, kind, class, field)
         }
         Resolved::GetOut => Ok(push_value(frame, Value::Out)),
         Resolved::OnArray(operation) => on_array(alloc, program, by, frame, store, operation),
@@ -104,7 +107,7 @@ fn execute_next<S: Store>(
         return Ok(Conclusion::Halts(FaultKind::Fault));
     };
     match execute_local(frame, instruction) {
-        Some(went) => end(alloc, by, frame, store, went),
+        Some(went) => end(alloc, program, by, frame, store, went),
         None => {
             let resolved = resolved_operation(program, class, method, instruction);
             execute_resolved(given, spares, frame, store, resolved)

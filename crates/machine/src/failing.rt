@@ -23,24 +23,25 @@ use vm_state::classes::ClassState;
 use vm_state::ends::{End, FaultKind};
 use vm_state::frame::Segment;
 use vm_state::initialization::Frames;
-use vm_state::object::Slots;
 use vm_state::shared::Shared;
 use vm_state::value::{Maker, Name};
 
-/// A new exception of a built-in class, and its class. Where memory is refused nothing changes.
+/// A new exception of a built-in class, or of its substitute, and its class. Where memory is refused nothing changes.
 fn make_exception(
     alloc: Global,
+    program: &Program,
     maker: Maker,
     shared: &mut Shared,
     class: BuiltIn,
 ) -> Result<(Name, ClassId), AllocError>
     ensures row { IfOk result (λ r. (t : ℕ) (p : List Print)
-        → run_row t maker (shared_of shared.old p) (raises class) ≡ Moved (Raise r.0 r.1) (shared_of shared.new p)) }
+        → run_row t maker (shared_of shared.old p) (raises program.now class) ≡ Moved (Raise r.0 r.1) (shared_of shared.new p)) }
     ensures classes { shared.new.classes ≡ shared.old.classes }
     ensures err { OnErr result (SharesTheSame shared.old shared.new) }
 {
-    let class = ClassId::BuiltIn(class);
-    match shared.make(alloc, maker, class, Slots::none(alloc)) {
+    let class = program.raised_class(class);
+    let slots = program.blank_slots(alloc, class)?;
+    match shared.make(alloc, maker, class, slots) {
         Ok(exception) => Ok((exception, class)),
         Err(error) => Err(error),
     }
@@ -67,7 +68,13 @@ fn raised_by(
     if program.is_below(class, ClassId::BuiltIn(BuiltIn::Error)) {
         return Ok(Some((exception, class)));
     }
-    match make_exception(alloc, maker, shared, BuiltIn::ExceptionInInitializerError) {
+    match make_exception(
+        alloc,
+        program,
+        maker,
+        shared,
+        BuiltIn::ExceptionInInitializerError,
+    ) {
         Ok(made) => Ok(Some(made)),
         Err(error) => Err(error),
     }
@@ -89,7 +96,7 @@ fn raised(
     ensures err { OnErr result (SharesTheSame shared.old shared.new) }
 {
     let Some(exception) = cause else {
-        return match make_exception(alloc, maker, shared, BuiltIn::NoClassDefFoundError) {
+        return match make_exception(alloc, program, maker, shared, BuiltIn::NoClassDefFoundError) {
             Ok(made) => Ok(Some(made)),
             Err(error) => Err(error),
         };

@@ -132,8 +132,8 @@ pub fn call_on<S: Store>(
         return FAULT;
     }
     if is_null(receiver.value) {
-        let Execution { alloc, by, .. } = given;
-        return raise(alloc, by, store, BuiltIn::NullPointerException);
+        let Execution { alloc, program, by } = given;
+        return raise(alloc, program, by, store, BuiltIn::NullPointerException);
     }
     run_chosen(given, spares, frame, store, call.choice, receiver)
 }

@@ -1,24 +1,38 @@
 //! Fields of instances (JVMS 6.5, getfield and putfield), over any store.
 
-ghost use Rattle.std.specs.Prelude.{List};
+ghost use Rattle.std.specs.Prelude.{◌≡◌, List};
 ghost use Rattle.vm_state.specs.Output.{Print};
-ghost use Rattle.machine.specs.Objects.{get_field, put_field};
+ghost use Rattle.machine.specs.Objects.{get_field, is_blank, put_field};
 ghost use Rattle.machine.specs.Accesses.{Gives, Keeps};
 
 use crate::kinds::{Actor, Conclusion, Stop};
 use crate::object_operation::InstanceField;
 use crate::objects::is_holder;
+use crate::pushing::replace_top;
 use crate::references::{name_of, second_reference, without_object};
 use crate::store::Store;
 use crate::stored_kind::{extra_places, top_stored};
+use built_in::class_id::BuiltIn;
 use frame_instructions::numeric::advance;
 use frame_instructions::operand_kind::{OperandKind, top_as};
-use program::Program;
+use program::{Program, zero_of};
 use std::alloc::Global;
 use vm_state::ends::FaultKind;
 use vm_state::frame::Frame;
+use vm_state::value::Value;
 
 const FAULT: Result<Conclusion, Stop> = Ok(Conclusion::Halts(FaultKind::Fault));
+
+/// Whether a value is a constant string, and a field one that String's substitute declares: it holds zero or null.
+#[inline(always)]
+fn is_blank(program: &Program, field: InstanceField, holder: Value) -> bool
+    ensures { result ≡ is_blank program.now field holder }
+{
+    match holder {
+        Value::Text(_) => program.is_substitute(BuiltIn::String, field.class),
+        _ => false,
+    }
+}
 
 /// `getfield`.
 ///
@@ -44,8 +58,11 @@ pub fn get_field<S: Store>(
     if !frame.cells.has_room(extra_places(field.kind)) {
         return FAULT;
     }
+    if is_blank(program, field, holder) {
+        return Ok(replace_top(frame, zero_of(field.kind)));
+    }
     let Some(object) = name_of(holder) else {
-        return without_object(alloc, by, store, holder);
+        return without_object(alloc, program, by, store, holder);
     };
     if !is_holder(program, field.class, store.class_of(by, object)?) {
         return FAULT;
@@ -85,7 +102,7 @@ pub fn put_field<S: Store>(
         return FAULT;
     };
     let Some(object) = name_of(holder) else {
-        return without_object(alloc, by, store, holder);
+        return without_object(alloc, program, by, store, holder);
     };
     if !is_holder(program, field.class, store.class_of(by, object)?) {
         return FAULT;

@@ -55,7 +55,7 @@ fn new_enum<S: Store>(
         return FAULT;
     };
     let Some(object) = name_of(receiver) else {
-        return without_object(alloc, by, store, receiver);
+        return without_object(alloc, program, by, store, receiver);
     };
     if !is_enum_object(program, store.class_of(by, object)?) {
         return FAULT;
@@ -109,7 +109,7 @@ fn enum_part<S: Store>(
     ensures kept { Keeps S.state result store.old store.new frame.old frame.new }
 {
     let Some(object) = name_of(receiver) else {
-        return without_object(alloc, by, store, receiver);
+        return without_object(alloc, program, by, store, receiver);
     };
     if !is_enum_object(program, store.class_of(by, object)?) {
         return FAULT;
@@ -142,17 +142,18 @@ fn copy_array<S: Store>(
 #[tactic(auto, using(crate::proofs::AccessesLemmas::kept_by_same, crate::proofs::AccessesLemmas::untouched_as))]
 fn clone_array<S: Store>(
     alloc: Global,
+    program: &Program,
     by: Actor,
     frame: &mut Frame,
     store: &mut S,
     receiver: Value,
 ) -> Result<Conclusion, Stop>
     ensures gives { (p : List Print) → Gives S.stopped (S.run by (S.state store.old p)) (S.run by (S.state store.new p))
-        (clone_array receiver frame.old) frame.new result }
+        (clone_array program.now receiver frame.old) frame.new result }
     ensures kept { Keeps S.state result store.old store.new frame.old frame.new }
 {
     let Some(object) = name_of(receiver) else {
-        return without_object(alloc, by, store, receiver);
+        return without_object(alloc, program, by, store, receiver);
     };
     match store.class_of(by, object)? {
         Some(ClassId::Array(array)) => copy_array(alloc, by, frame, store, object, array),
@@ -187,7 +188,7 @@ pub fn run_member<S: Store>(
         BuiltInMethod::NewEnum => new_enum(alloc, program, by, frame, store, value),
         BuiltInMethod::EnumName => enum_part(alloc, program, by, frame, store, value, 0),
         BuiltInMethod::EnumOrdinal => enum_part(alloc, program, by, frame, store, value, 1),
-        BuiltInMethod::CloneArray => clone_array(alloc, by, frame, store, value),
+        BuiltInMethod::CloneArray => clone_array(alloc, program, by, frame, store, value),
         BuiltInMethod::Print(_) | BuiltInMethod::PrintLine(_) | BuiltInMethod::EndLine => FAULT,
     }
 }

@@ -17,6 +17,7 @@ use crate::store::Store;
 use built_in::class_id::BuiltIn;
 use frame_instructions::numeric::advance;
 use frame_instructions::operand_kind::{OperandKind, top_as};
+use program::Program;
 use std::alloc::Global;
 use vm_state::ends::FaultKind;
 use vm_state::frame::Frame;
@@ -110,17 +111,18 @@ pub fn lock_monitor(thread: u32, enters: bool, monitor: Monitor) -> Lock
 /// The store's reason. The store is as it was; where memory is refused, what definitions see of it.
 fn without_monitor<S: Store>(
     alloc: Global,
+    program: &Program,
     by: Actor,
     store: &mut S,
     value: Value,
 ) -> Result<Conclusion, Stop>
     ensures gives { (p : List Print) (f : FrameOf)
         → Gives S.stopped (S.run by (S.state store.old p)) (S.run by (S.state store.new p))
-        (without_monitor value) f result }
+        (without_monitor program.now value) f result }
     ensures same { KeptBy S.state result store.old store.new }
 {
     match value {
-        Value::Null => raise(alloc, by, store, BuiltIn::NullPointerException),
+        Value::Null => raise(alloc, program, by, store, BuiltIn::NullPointerException),
         Value::Text(_) | Value::Out => Ok(Conclusion::Halts(FaultKind::Unsupported)),
         _ => FAULT,
     }
@@ -134,19 +136,20 @@ fn without_monitor<S: Store>(
 #[tactic(auto, using(crate::proofs::AccessesLemmas::kept_by_same, crate::proofs::AccessesLemmas::untouched_as))]
 pub fn enter_monitor<S: Store>(
     alloc: Global,
+    program: &Program,
     by: Actor,
     frame: &mut Frame,
     store: &mut S,
 ) -> Result<Conclusion, Stop>
     ensures gives { (p : List Print) → Gives S.stopped (S.run by (S.state store.old p)) (S.run by (S.state store.new p))
-        (enter_monitor frame.old) frame.new result }
+        (enter_monitor program.now frame.old) frame.new result }
     ensures kept { Keeps S.state result store.old store.new frame.old frame.new }
 {
     let Ok(value) = top_as(&frame.cells, OperandKind::Reference) else {
         return FAULT;
     };
     let Some(object) = name_of(value) else {
-        return without_monitor(alloc, by, store, value);
+        return without_monitor(alloc, program, by, store, value);
     };
     if !store.use_monitor(by, object, true)? {
         return FAULT;
@@ -164,22 +167,29 @@ pub fn enter_monitor<S: Store>(
 #[tactic(auto, using(crate::proofs::AccessesLemmas::kept_by_same, crate::proofs::AccessesLemmas::untouched_as))]
 pub fn exit_monitor<S: Store>(
     alloc: Global,
+    program: &Program,
     by: Actor,
     frame: &mut Frame,
     store: &mut S,
 ) -> Result<Conclusion, Stop>
     ensures gives { (p : List Print) → Gives S.stopped (S.run by (S.state store.old p)) (S.run by (S.state store.new p))
-        (exit_monitor frame.old) frame.new result }
+        (exit_monitor program.now frame.old) frame.new result }
     ensures kept { Keeps S.state result store.old store.new frame.old frame.new }
 {
     let Ok(value) = top_as(&frame.cells, OperandKind::Reference) else {
         return FAULT;
     };
     let Some(object) = name_of(value) else {
-        return without_monitor(alloc, by, store, value);
+        return without_monitor(alloc, program, by, store, value);
     };
     if !store.use_monitor(by, object, false)? {
-        return raise(alloc, by, store, BuiltIn::IllegalMonitorStateException);
+        return raise(
+            alloc,
+            program,
+            by,
+            store,
+            BuiltIn::IllegalMonitorStateException,
+        );
     }
     frame.cells.drop_top();
     advance(frame);

@@ -40,7 +40,7 @@ pub fn execute_on_object<S: Store>(
         ObjectOperation::Throw => throw(alloc, program, by, frame, store),
         ObjectOperation::GetField(field) => get_field(alloc, program, by, frame, store, field),
         ObjectOperation::PutField(field) => put_field(alloc, program, by, frame, store, field),
-        ObjectOperation::EnterMonitor => enter_monitor(alloc, by, frame, store),
-        ObjectOperation::ExitMonitor => exit_monitor(alloc, by, frame, store),
+        ObjectOperation::EnterMonitor => enter_monitor(alloc, program, by, frame, store),
+        ObjectOperation::ExitMonitor => exit_monitor(alloc, program, by, frame, store),
     }
 }

@@ -95,7 +95,7 @@ pub fn new_given<S: Store>(
     ensures kept { Keeps S.state result store.old store.new frame.old frame.new }
 {
     if !store.use_class(by, class)? {
-        return raise(alloc, by, store, BuiltIn::NoClassDefFoundError);
+        return raise(alloc, program, by, store, BuiltIn::NoClassDefFoundError);
     }
     let slots = program.zero_slots(alloc, class)?;
     new_object(alloc, by, frame, store, ClassId::Given(class), slots)
@@ -174,7 +174,7 @@ pub fn check_cast<S: Store>(
         return FAULT;
     };
     if !is_null(value) && !refers_to(program, by, store, class, value)? {
-        return raise(alloc, by, store, BuiltIn::ClassCastException);
+        return raise(alloc, program, by, store, BuiltIn::ClassCastException);
     }
     advance(frame);
     Ok(Conclusion::Stays)
@@ -236,7 +236,7 @@ pub fn throw<S: Store>(
         return FAULT;
     };
     let Some(object) = name_of(value) else {
-        return without_object(alloc, by, store, value);
+        return without_object(alloc, program, by, store, value);
     };
     match store.class_of(by, object)? {
         Some(class) if program.is_below(class, ClassId::BuiltIn(BuiltIn::Throwable)) => {

@@ -3,16 +3,18 @@
 ghost use Rattle.std.specs.Prelude.{◌≡◌, ◌∷◌, [], List, IfOk, is_some, slice_get};
 ghost use Rattle.classfile.specs.Printing.{printed_units};
 ghost use Rattle.vm_state.specs.Output.{Print};
-ghost use Rattle.machine.specs.Printing.{unit_of_int, text_of_string, printed_text, ended, print_on, print_value};
+ghost use Rattle.machine.specs.MadeStrings.{unit_of_int};
+ghost use Rattle.machine.specs.Printing.{object_printed, print_made, text_of_string, printed_text, ended, print_on, print_value};
 ghost use Rattle.machine.specs.Printing.{end_line};
 ghost use Rattle.machine.specs.Accesses.{Gives, Keeps};
 
 use crate::call_operation::InstanceCall;
 use crate::instance_calls::{call_on, is_out};
 use crate::kinds::{Conclusion, Execution, Receiver, Stop};
-use crate::references::second_reference;
+use crate::made_strings::{made_string, unit_of_int};
+use crate::references::{name_of, second_reference};
 use crate::store::Store;
-use classfile::{printed, printed_unit};
+use classfile::{printed, printed_unit, text_of_units};
 use frame_instructions::operand_kind::{OperandKind, top_as};
 use program::{Printed, Program};
 use std::alloc::{AllocError, Global};
@@ -20,16 +22,9 @@ use vm_state::ends::FaultKind;
 use vm_state::frame::Frame;
 use vm_state::spares::Spares;
 use vm_state::text::Text;
-use vm_state::value::Value;
+use vm_state::value::{Name, Value};
 
 const FAULT: Result<Conclusion, Stop> = Ok(Conclusion::Halts(FaultKind::Fault));
-
-/// The unit of a char, which is the low 16 bits of an int.
-fn unit_of_int(number: i32) -> u16
-    ensures { result ≡ unit_of_int number }
-{
-    (number.cast_unsigned() % 65_536) as u16
-}
 
 /// What is printed of a char.
 fn text_of_char(alloc: Global, number: i32) -> Result<Text, AllocError>
@@ -119,6 +114,50 @@ fn print_on<S: Store>(
     })
 }
 
+/// The object that a method prints, where a library is there that makes strings.
+fn object_printed(program: &Program, what: Printed, value: Value) -> Option<Name>
+    ensures { result ≡ object_printed program.now what value }
+{
+    match what {
+        Printed::String if program.has_library() => name_of(value),
+        _ => None,
+    }
+}
+
+/// `print` and `println` of an object, which has to be a string that a library made.
+#[tactic(auto, unfolding(crate::specs::Accesses::unless_refused))]
+fn print_made<S: Store>(
+    given: Execution<'_>,
+    spares: &mut Spares,
+    frame: &mut Frame,
+    store: &mut S,
+    object: Name,
+    line: bool,
+    call: InstanceCall,
+) -> Result<Conclusion, Stop>
+    ensures gives { (p : List Print) → Gives S.stopped (S.run given.entry.by (S.state store.old p))
+        (S.run given.entry.by (S.state store.new p))
+        (print_made given.entry.program.now object line call frame.old) frame.new result }
+    ensures kept { Keeps S.state result store.old store.new frame.old frame.new }
+{
+    let Some(units) = made_string(given.alloc, given.program, given.by, store, object)? else {
+        return FAULT;
+    };
+    let Ok(receiver) = second_reference(&frame.cells) else {
+        return FAULT;
+    };
+    let receiver = Receiver {
+        value: receiver,
+        count: 2,
+    };
+    if !is_out(receiver.value) {
+        return call_on(given, spares, frame, store, call, receiver);
+    }
+    let text = Text::of_string(text_of_units(given.alloc, units)?);
+    let text = ended(line, text)?;
+    print_on(given, spares, frame, store, call, receiver, text)
+}
+
 /// `print` and `println` of a value.
 ///
 /// # Errors
@@ -142,6 +181,9 @@ pub fn print_value<S: Store>(
     let Ok(value) = frame.cells.top() else {
         return FAULT;
     };
+    if let Some(object) = object_printed(given.program, what, value) {
+        return print_made(given, spares, frame, store, object, line, call);
+    }
     let Ok(receiver) = second_reference(&frame.cells) else {
         return FAULT;
     };

@@ -4,6 +4,7 @@ ghost use Rattle.std.specs.Prelude.{◌≡◌, Ok};
 ghost use Rattle.frame_instructions.specs.Completion.{pushes};
 ghost use Rattle.vm_state.specs.Operands.{rest};
 ghost use Rattle.semantics.specs.Moves.{with_operands};
+ghost use Rattle.program.specs.Tables.{Tables};
 ghost use Rattle.machine.specs.RowParts.{push};
 ghost use Rattle.machine.specs.Table.{local_row};
 ghost use Rattle.machine.specs.Accesses.{Untouched, concluded};
@@ -16,7 +17,8 @@ use vm_state::value::Value;
 
 /// `ldc`, `ldc_w` and `ldc2_w` of an int or a long.
 pub fn push_number(frame: &mut Frame, number: Value) -> Conclusion
-    ensures gives { local_row (pushes frame.old frame.old.operands number) ≡ concluded result frame.new }
+    ensures gives { (P : Tables) → local_row P (pushes frame.old frame.old.operands number)
+        ≡ concluded result frame.new }
     ensures frame { Untouched (Ok result) frame.old frame.new }
     ensures activity { frame.new.activity ≡ frame.old.activity }
 {

@@ -69,6 +69,7 @@ fn call_main(
         None => Ok(Conclusion::Halts(FaultKind::Missing)),
         Some(Implementation::Abstract) => Ok(Conclusion::Halts(FaultKind::Missing)),
         Some(Implementation::Unsupported) => Ok(Conclusion::Halts(FaultKind::Unsupported)),
+        Some(Implementation::Native(_)) => Ok(Conclusion::Halts(FaultKind::Unsupported)),
         Some(Implementation::Code(code)) => {
             let Ok(argument) = frame.cells.top() else {
                 return Ok(Conclusion::Halts(FaultKind::Fault));
@@ -99,7 +100,7 @@ pub fn start<S: Store>(
     ensures same { KeptBy S.state result store.old store.new }
 {
     if !store.use_class(by, class)? {
-        return raise(alloc, by, store, BuiltIn::NoClassDefFoundError);
+        return raise(alloc, program, by, store, BuiltIn::NoClassDefFoundError);
     }
     call_main(alloc, program, frame, class)
 }

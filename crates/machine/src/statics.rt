@@ -11,6 +11,7 @@ use crate::store::Store;
 use crate::stored_kind::top_stored;
 use built_in::class_id::BuiltIn;
 use frame_instructions::numeric::advance;
+use program::Program;
 use program::runtime_constant::FieldKind;
 use std::alloc::Global;
 use vm_state::ends::FaultKind;
@@ -27,6 +28,7 @@ const FAULT: Result<Conclusion, Stop> = Ok(Conclusion::Halts(FaultKind::Fault));
 #[inline(always)]
 pub fn get_static<S: Store>(
     alloc: Global,
+    program: &Program,
     by: Actor,
     frame: &mut Frame,
     store: &mut S,
@@ -34,11 +36,11 @@ pub fn get_static<S: Store>(
     field: u32,
 ) -> Result<Conclusion, Stop>
     ensures gives { (p : List Print) → Gives S.stopped (S.run by (S.state store.old p)) (S.run by (S.state store.new p))
-        (get_static class field frame.old) frame.new result }
+        (get_static program.now class field frame.old) frame.new result }
     ensures kept { Keeps S.state result store.old store.new frame.old frame.new }
 {
     if !store.use_class(by, class)? {
-        return raise(alloc, by, store, BuiltIn::NoClassDefFoundError);
+        return raise(alloc, program, by, store, BuiltIn::NoClassDefFoundError);
     }
     let value = store.read_static(by, class, field)?;
     if frame.cells.push(value).is_err() {
@@ -56,6 +58,7 @@ pub fn get_static<S: Store>(
 #[tactic(auto, using(crate::proofs::AccessesLemmas::kept_by_same, crate::proofs::AccessesLemmas::untouched_as))]
 pub fn put_static<S: Store>(
     alloc: Global,
+    program: &Program,
     by: Actor,
     frame: &mut Frame,
     store: &mut S,
@@ -64,11 +67,11 @@ pub fn put_static<S: Store>(
     field: u32,
 ) -> Result<Conclusion, Stop>
     ensures gives { (p : List Print) → Gives S.stopped (S.run by (S.state store.old p)) (S.run by (S.state store.new p))
-        (put_static kind class field frame.old) frame.new result }
+        (put_static program.now kind class field frame.old) frame.new result }
     ensures kept { Keeps S.state result store.old store.new frame.old frame.new }
 {
     if !store.use_class(by, class)? {
-        return raise(alloc, by, store, BuiltIn::NoClassDefFoundError);
+        return raise(alloc, program, by, store, BuiltIn::NoClassDefFoundError);
     }
     let Ok(value) = top_stored(&frame.cells, kind) else {
         return FAULT;

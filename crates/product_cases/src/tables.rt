@@ -54,6 +54,7 @@ fn add_implementation(
         Implementation::Code(code) => add_code(answer, program, class, code),
         Implementation::Abstract => answer.word("abstract"),
         Implementation::Unsupported => answer.word("left out"),
+        Implementation::Native(_) => answer.word("native"),
     }
 }
 

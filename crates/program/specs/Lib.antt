@@ -9,6 +9,9 @@ pub mod Fields
 pub mod InstanceFields
 pub mod FieldTargets
 pub mod Holders
+pub mod NewObjects
+pub mod Natives
+pub mod ClassNames
 pub mod Signatures
 pub mod Handlers
 pub mod Strings

@@ -27,6 +27,8 @@ use Rattle.hierarchy.specs.Initialization.{IsInitializationOrder}
 use Rattle.program.specs.RuntimePool.{IsRuntimePool}
 use Rattle.program.specs.Fields.{statics_of, field_kind, narrowed}
 use Rattle.program.specs.Handlers.{IsHandler}
+use Rattle.program.specs.Natives.{native_of}
+use Rattle.program.specs.declared.native.Native.{Native}
 use Rattle.program.specs.Signatures.{IsReturnKindOf, AreSignatures}
 use Rattle.hierarchy.specs.Texts.{AreDistinct}
 use Rattle.program.specs.Strings.{all_strings, AreFirsts, AreStrings}
@@ -82,7 +84,7 @@ static_field f pool m = record {
 
 -- ---- methods
 
--- abstract; native or synchronized, which is left out; the flags of a class initialization method say nothing (JVMS
+-- abstract; native or synchronized, which is left out but for five natives of the library; the flags of a class initialization method say nothing (JVMS
 -- 4.6)
 abbrev pub is_abstract_method : ClassFile → Member → Bool
 is_abstract_method f m = not (is_initializer f m) && has_flag m.access_flags 1024
@@ -104,7 +106,10 @@ pub record IsMethodCode (family : Family) (f : ClassFile) (m : Member) (attribut
 -- How a method is implemented.
 pub data IsImplementation (family : Family) (f : ClassFile) (m : Member) : Implementation → Type 0 where
   abstract : is_abstract_method f m ≡ true → IsImplementation family f m implementations.Abstract
-  left_out : is_left_out f m ≡ true → IsImplementation family f m implementations.Unsupported
+  left_out : is_left_out f m ≡ true → native_of family f m ≡ None
+      → IsImplementation family f m implementations.Unsupported
+  native : {n : Native} → is_left_out f m ≡ true → native_of family f m ≡ Some n
+      → IsImplementation family f m (implementations.Native n)
   no_code : is_abstract_method f m ≡ false → is_left_out f m ≡ false → code_among m.attributes ≡ None
       → IsImplementation family f m implementations.Abstract
   code : {attribute : CodeAttribute} {code : MethodCode} → is_abstract_method f m ≡ false → is_left_out f m ≡ false

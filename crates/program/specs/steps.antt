@@ -9,3 +9,4 @@ pub mod Slots
 pub mod Sparse
 pub mod NamedConstants
 pub mod Frames
+pub mod Units

@@ -5,6 +5,7 @@ ghost use Rattle.classfile.specs.Units.{units_text};
 ghost use Rattle.program.specs.Programs.{IsProgram};
 
 use crate::linked_program::Program;
+use built_in::class_id::BuiltIn;
 use classfile::ModifiedUtf8;
 use hierarchy::text_state::TextState;
 use std::alloc::{AllocError, Global};
@@ -37,6 +38,19 @@ impl Program {
         ensures err { OnErr result (self.new ≡ self.old) }
     {
         let text = ModifiedUtf8::from_units(alloc, units)?;
-        self.strings.add(alloc, text.bytes())
+        if let Some(number) = self.strings.number(text.bytes()) {
+            return Ok(number);
+        }
+        if self.family().substitute(BuiltIn::String).is_none() {
+            return self.strings.add(alloc, text.bytes());
+        }
+        self.units.add(alloc, text.bytes())?;
+        match self.strings.add(alloc, text.bytes()) {
+            Ok(number) => Ok(number),
+            Err(error) => {
+                self.units.drop_last();
+                Err(error)
+            }
+        }
     }
 }

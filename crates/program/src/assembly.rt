@@ -13,6 +13,7 @@ ghost use Rattle.program.specs.declared.class.Class.{Class as ClassTables};
 ghost use Rattle.program.specs.Fields.{statics_of};
 ghost use Rattle.program.specs.Signatures.{AreSignatures};
 ghost use Rattle.program.specs.steps.Slots.{AreSlots};
+ghost use Rattle.program.specs.steps.Units.{AreUnits};
 ghost use Rattle.program.specs.steps.StaticNumbers.{AreStaticNumbersOf};
 ghost use Rattle.hierarchy.specs.Initialization.{AreOrders};
 ghost use Rattle.program.specs.Programs.{AreClasses, HasOwnStrings, IsProgram};
@@ -34,6 +35,7 @@ use crate::signature::{Signatures, signatures_of};
 use crate::slots::SlotTable;
 use crate::static_numbers::StaticNumbers;
 use crate::statics::statics_of;
+use crate::units::Units;
 use classfile::ClassFile;
 use hierarchy::class_lists::ClassLists;
 use hierarchy::hierarchy::Hierarchy;
@@ -191,6 +193,7 @@ struct Tables {
     orders: ClassLists,
     classes: Vec<Class>,
     strings: Texts,
+    units: Units,
 }
 
 /// The tables of a hierarchy.
@@ -201,6 +204,7 @@ fn tables_of(alloc: Global, hierarchy: &Hierarchy, slots: &SlotTable) -> Result<
     ensures classes { IfOk result (λ tables. AreBareClasses hierarchy.now.family tables.strings tables.classes.items) }
     ensures distinct { IfOk result (λ tables. AreDistinct tables.strings) }
     ensures strings { IfOk result (λ tables. AreFirsts (all_strings hierarchy.now.family) tables.strings) }
+    ensures units { IfOk result (λ tables. AreUnits hierarchy.now.family tables.strings tables.units) }
 {
     let orders = initialization_orders(alloc, hierarchy.family())?;
     with_classes(alloc, hierarchy, slots, orders)
@@ -218,12 +222,33 @@ fn with_classes(
     ensures classes { IfOk result (λ tables. AreBareClasses hierarchy.now.family tables.strings tables.classes.items) }
     ensures distinct { IfOk result (λ tables. AreDistinct tables.strings) }
     ensures strings { IfOk result (λ tables. AreFirsts (all_strings hierarchy.now.family) tables.strings) }
+    ensures units { IfOk result (λ tables. AreUnits hierarchy.now.family tables.strings tables.units) }
 {
     match class_tables(alloc, hierarchy, slots) {
-        Ok((classes, strings)) => Ok(Tables {
+        Ok((classes, strings)) => with_units(alloc, hierarchy.family(), orders, classes, strings),
+        Err(error) => Err(error),
+    }
+}
+
+/// These tables, with the units of the strings where the library is there.
+fn with_units(
+    alloc: Global,
+    family: &Family,
+    orders: ClassLists,
+    classes: Vec<Class>,
+    strings: Texts,
+) -> Result<Tables, AllocError>
+    ensures orders { IfOk result (λ tables. tables.orders ≡ orders) }
+    ensures classes { IfOk result (λ tables. tables.classes ≡ classes) }
+    ensures strings { IfOk result (λ tables. tables.strings ≡ strings) }
+    ensures units { IfOk result (λ tables. AreUnits family.now strings tables.units) }
+{
+    match Units::of_strings(alloc, family, &strings) {
+        Ok(units) => Ok(Tables {
             orders,
             classes,
             strings,
+            units,
         }),
         Err(error) => Err(error),
     }
@@ -257,6 +282,7 @@ fn joined(hierarchy: Hierarchy, slots: SlotTable, tables: Tables) -> Program
     requires classes { AreClasses hierarchy.family tables.strings tables.classes.items }
     requires distinct { AreDistinct tables.strings }
     requires strings { AreFirsts (all_strings hierarchy.family) tables.strings }
+    requires units { AreUnits hierarchy.family tables.strings tables.units }
     ensures family { result.family ≡ hierarchy.family }
     ensures orders { result.orders ≡ tables.orders }
     ensures program { IsProgram result }
@@ -267,6 +293,7 @@ fn joined(hierarchy: Hierarchy, slots: SlotTable, tables: Tables) -> Program
         orders: tables.orders,
         classes: tables.classes,
         strings: tables.strings,
+        units: tables.units,
         slots,
     }
 }

@@ -4,6 +4,7 @@ ghost use Rattle.std.specs.Prelude.{◌≡◌, ◌<◌, ◌++◌, ◌∷◌, [],
 ghost use Rattle.program.specs.steps.NamedConstants.{held_in};
 
 use crate::handler::Handlers;
+use crate::native::Native;
 use crate::runtime_constant::RuntimeConstant;
 use crate::signature::{ReturnKind, Signatures};
 use crate::sparse::Sparse;
@@ -45,6 +46,8 @@ pub enum Implementation {
     Abstract,
     /// Native or synchronized, which the machine leaves out.
     Unsupported,
+    /// Native, and one that the machine runs.
+    Native(Native),
 }
 
 /// The methods of a class, in the order of its file.

@@ -1,21 +1,26 @@
 //! The linked program.
 
 ghost use Rattle.std.specs.Prelude.{◌≡◌, ◌≢◌, ◌<◌, ◌≤◌, ℕ, [], length, Option, Some, IfOk, MatchOption, option_copied};
-ghost use Rattle.std.specs.Prelude.{option_map, slice_get};
+ghost use Rattle.std.specs.Prelude.{option_map, slice_get, IfSome, IsSome};
+ghost use Rattle.built_in.specs.declared.class_id.BuiltIn.TheVariants as builtins;
+ghost use Rattle.classfile.specs.Printing.{units_of};
 ghost use Rattle.classfile.specs.Units.{units_text};
-ghost use Rattle.loading.specs.Families.{name_in};
+ghost use Rattle.loading.specs.Families.{name_in, substitute_in};
 ghost use Rattle.loading.specs.Files.{Links};
 ghost use Rattle.hierarchy.specs.Initialization.{IsInitializationOrder};
 ghost use Rattle.program.specs.Programs.{IsProgram, files_of};
 ghost use Rattle.program.specs.Tables.{Tables, implementations_of, instruction_at, implementation_at, constant_at};
-ghost use Rattle.program.specs.Tables.{statics_in, order_in};
+ghost use Rattle.program.specs.Natives.{class_of_native};
+ghost use Rattle.program.specs.Tables.{native_at, statics_in, order_in};
 ghost use Rattle.program.specs.Tables.{initializer_in, main_in, signature_at};
 
 use crate::class::{Class, Implementation};
 use crate::class_text::class_text;
+use crate::native::Native;
 use crate::runtime_constant::RuntimeConstant;
 use crate::signature::Signature;
 use crate::slots::SlotTable;
+use crate::units::Units;
 use built_in::class_id::ClassId;
 use bytecode::Instruction;
 use classfile::ClassName;
@@ -35,6 +40,8 @@ pub struct Program {
     pub(crate) classes: Vec<Class>,
     /// The distinct strings, as class files spell them.
     pub(crate) strings: Texts,
+    /// The units of the strings, where a library's natives may ask for them.
+    pub(crate) units: Units,
     /// What objects hold.
     pub(crate) slots: SlotTable,
 }
@@ -44,6 +51,7 @@ impl Model for Program {
     ghost use Rattle.program.specs.Programs.{IsProgram, files_of};
     ghost use Rattle.program.specs.Tables.{Tables};
     ghost use Rattle.program.specs.steps.Slots.{AreSlots};
+    ghost use Rattle.program.specs.steps.Units.{AreUnits};
 
     ghost Value = { Tables };
 
@@ -57,7 +65,8 @@ impl Model for Program {
 
     ghost invariant = { λ s. IsProgram
         (record { family = s.hierarchy.family; orders = s.orders; classes = s.classes.items; strings = s.strings })
-        × AreSlots s.hierarchy.family s.slots × Links (files_of s.hierarchy.family) };
+        × AreSlots s.hierarchy.family s.slots × Links (files_of s.hierarchy.family)
+        × AreUnits s.hierarchy.family s.strings s.units };
 }
 
 // By hand, since a derived one is proved anew wherever a program is let go.
@@ -68,6 +77,7 @@ impl Drop for Program {
             orders: _,
             classes: _,
             strings: _,
+            units: _,
             slots: _,
         } = self;
     }
@@ -133,6 +143,17 @@ impl Program {
         class.methods.methods.get(usize::from(method))
     }
 
+    /// The native method of a library that a method is.
+    pub fn native(&self, class: u32, method: u16) -> Option<Native>
+        ensures value { result ≡ native_at self.now class method }
+        ensures library { IfSome result (λ native. IsSome (substitute_in self.now.family (class_of_native native))) }
+    {
+        match self.implementation(class, method) {
+            Some(Implementation::Native(native)) => Some(*native),
+            _ => None,
+        }
+    }
+
     /// The instruction at a place of a method's body.
     #[tactic(auto, unfolding(crate::specs::Tables::instruction_at))]
     #[inline(always)]
@@ -170,6 +191,14 @@ impl Program {
         ensures { option_map (λ text. text.now) result ≡ slice_get self.now.strings number }
     {
         self.strings.text(number)
+    }
+
+    /// The units of a string, by its number among the strings of the program, where a library is there.
+    pub fn units(&self, number: usize) -> Option<&[u16]>
+        ensures { IsSome (substitute_in self.now.family builtins.String) → option_map (λ units. units.now) result
+            ≡ option_map units_of (slice_get self.now.strings number) }
+    {
+        self.units.at(number)
     }
 
     /// The static fields of a class that have values, in order; none of a class that is not there.

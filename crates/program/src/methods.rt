@@ -1,6 +1,6 @@
 //! How the methods of a class are implemented.
 
-ghost use Rattle.std.specs.Prelude.{◌≡◌, IfOk};
+ghost use Rattle.std.specs.Prelude.{◌≡◌, IfOk, true};
 ghost use Rattle.std.specs.List.{AllZip, position_from};
 ghost use Rattle.loading.specs.Names.{text_at};
 ghost use Rattle.program.specs.Programs.{is_initializer, initializer_of, is_main, main_of};
@@ -10,9 +10,11 @@ ghost use Rattle.program.specs.steps.ResolvedConstants.{HoldsClasses};
 
 use crate::class::{Implementation, MethodCode, Methods};
 use crate::linked_file::LinkedFile;
+use crate::native::native_of;
 use bytecode::decode;
 use classfile::flags::{ABSTRACT, NATIVE, STATIC, SYNCHRONIZED, has_flag};
 use classfile::{ClassFile, Member};
+use loading::family::Family;
 use loading::names::text_at;
 use std::alloc::{AllocError, Global};
 
@@ -100,6 +102,17 @@ fn code_of(
     })
 }
 
+/// How a native or synchronized method is implemented: the machine runs the natives of a library.
+fn native_or_left_out(family: &Family, file: &ClassFile, method: &Member) -> Implementation
+    requires { is_left_out file.now method.now ≡ true }
+    ensures { IsImplementation family.now file.now method.now result }
+{
+    match native_of(family, file, method) {
+        Some(native) => Implementation::Native(native),
+        None => Implementation::Unsupported,
+    }
+}
+
 fn implementation_of(
     alloc: Global,
     linked: &LinkedFile<'_>,
@@ -112,7 +125,7 @@ fn implementation_of(
         return Ok(Implementation::Abstract);
     }
     if is_left_out(linked.file, method) {
-        return Ok(Implementation::Unsupported);
+        return Ok(native_or_left_out(linked.family, linked.file, method));
     }
     let Some(code) = method.code() else {
         return Ok(Implementation::Abstract);

@@ -7,6 +7,7 @@ ghost use Rattle.loading.specs.declared.given.Superclass.TheVariants as super;
 ghost use Rattle.loading.specs.Families.{Family as Classes, IsFamily, AreParentsWithin, file_in, superclass_in};
 ghost use Rattle.program.specs.InstanceFields.{is_instantiable_in, slots_of, slot_of, is_instance_field, kind_of};
 ghost use Rattle.program.specs.InstanceFields.{own_kinds_if};
+ghost use Rattle.program.specs.NewObjects.{blank_slots, raised_class};
 ghost use Rattle.program.specs.Programs.{zero_of};
 ghost use Rattle.program.specs.steps.Slots.{AreSlots, AreZeros};
 
@@ -15,6 +16,7 @@ use crate::linked_program::Program;
 use crate::runtime_constant::FieldKind;
 use crate::slots::SlotTable;
 use crate::statics::zero_of;
+use built_in::class_id::{BuiltIn, ClassId};
 use loading::family::Family;
 use std::alloc::{AllocError, Global};
 use vm_state::object::Slots;
@@ -44,6 +46,29 @@ impl Program {
         }
         let slots = zeros_of(alloc, self.hierarchy.family(), &self.slots, class)?;
         Ok(slots)
+    }
+}
+
+impl Program {
+    /// The class of an exception that an instruction raises: the substitute of a built-in one, where a library is
+    /// there.
+    pub fn raised_class(&self, class: BuiltIn) -> ClassId
+        ensures { result ≡ raised_class self.now.family class }
+    {
+        self.hierarchy.family().replaced(ClassId::BuiltIn(class))
+    }
+
+    /// What a new exception of a class holds: zero or null in each field.
+    ///
+    /// # Errors
+    /// Where memory runs out.
+    pub fn blank_slots(&self, alloc: Global, class: ClassId) -> Result<Slots, AllocError>
+        ensures { IfOk result (λ slots. slots ≡ blank_slots self.now.family class) }
+    {
+        match class {
+            ClassId::Given(class) => self.zero_slots(alloc, class),
+            ClassId::BuiltIn(_) | ClassId::Array(_) => Ok(Slots::none(alloc)),
+        }
     }
 }
 

@@ -49,7 +49,7 @@ pub(crate) fn is_static_field(file: &ClassFile, field: &Member) -> bool
 }
 
 /// What a field holds before its class is initialized (JVMS 2.3, 2.4).
-pub(crate) fn zero_of(kind: FieldKind) -> Value
+pub fn zero_of(kind: FieldKind) -> Value
     ensures { result ≡ zero_of kind }
 {
     match kind {

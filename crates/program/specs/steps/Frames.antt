@@ -16,6 +16,7 @@ use Rattle.program.specs.Signatures.{AreSignatures}
 use Rattle.program.specs.Strings.{AreFirsts, all_strings}
 use Rattle.program.specs.steps.ResolvedConstants.{HoldsClasses}
 use Rattle.program.specs.steps.Slots.{AreSlots}
+use Rattle.program.specs.steps.Units.{AreUnits}
 
 -- a linked class that has no methods yet
 pub record IsBareClass (family : Family) (strings : List (List ℕ)) (f : ClassFile) (class : Class) : Type 0 where
@@ -39,6 +40,7 @@ pub record IsFrame (frame : Frame) : Type 0 where
   pub classes : AreBareClasses frame.hierarchy.family frame.tables.strings frame.tables.classes.items
   pub distinct : AreDistinct frame.tables.strings
   pub strings : AreFirsts (all_strings frame.hierarchy.family) frame.tables.strings
+  pub units : AreUnits frame.hierarchy.family frame.tables.strings frame.tables.units
 
 -- ---- methods come in
 
