@@ -1,6 +1,6 @@
 //! What a program may ask of the class of an object, where a library is there: its name and its number.
 
-ghost use Rattle.std.specs.Prelude.{◌≡◌, ◌++◌, IfOk, OnOk, is_some, map};
+ghost use Rattle.std.specs.Prelude.{◌≡◌, ◌++◌, ◌∷◌, [], IfOk, OnOk, is_some, map};
 ghost use Rattle.built_in.specs.declared.class_id.BuiltIn.TheVariants as builtins;
 ghost use Rattle.classfile.specs.Printing.{units_of as units_in};
 ghost use Rattle.loading.specs.Families.{substitute_in};
@@ -56,7 +56,16 @@ fn add_class(name: &[u8], text: &mut Vec<u8>) -> Result<(), AllocError>
 {
     text.push(b'L')?;
     text.extend_from_slice(name)?;
-    text.push(b';')
+    text.push(b';')?;
+    Ok(())
+}
+
+/// Adds the descriptor of a primitive type.
+fn add_letter(letter: u8, text: &mut Vec<u8>) -> Result<(), AllocError>
+    ensures { OnOk result (text.new.items ≡ text.old.items ++ letter ∷ []) }
+{
+    text.push(letter)?;
+    Ok(())
 }
 
 /// The number of an element type.
@@ -114,14 +123,14 @@ impl Program {
     {
         let family = self.family();
         match element {
-            ElementType::Boolean => text.push(b'Z'),
-            ElementType::Byte => text.push(b'B'),
-            ElementType::Char => text.push(b'C'),
-            ElementType::Short => text.push(b'S'),
-            ElementType::Int => text.push(b'I'),
-            ElementType::Long => text.push(b'J'),
-            ElementType::Float => text.push(b'F'),
-            ElementType::Double => text.push(b'D'),
+            ElementType::Boolean => add_letter(b'Z', text),
+            ElementType::Byte => add_letter(b'B', text),
+            ElementType::Char => add_letter(b'C', text),
+            ElementType::Short => add_letter(b'S', text),
+            ElementType::Int => add_letter(b'I', text),
+            ElementType::Long => add_letter(b'J', text),
+            ElementType::Float => add_letter(b'F', text),
+            ElementType::Double => add_letter(b'D', text),
             ElementType::Given(number) => add_class(given_name(family, number), text),
             ElementType::BuiltIn(class) => add_class(class.name().as_bytes(), text),
             ElementType::Unknown(number) => {

@@ -61,7 +61,8 @@ impl Units {
         ensures err { OnErr result (self.new ≡ self.old) }
     {
         let units = classfile::units_of(alloc, text)?;
-        self.units.push(units)
+        self.units.push(units)?;
+        Ok(())
     }
 
     /// Takes the last away.
