@@ -28,6 +28,7 @@ abbrev pub lack_of : Option Implementation → Option FaultKind
 lack_of None = None
 lack_of (Some implementations.Abstract) = Some faults.Missing
 lack_of (Some implementations.Unsupported) = Some faults.Unsupported
+lack_of (Some (implementations.Native native)) = Some faults.Unsupported
 lack_of (Some (implementations.Code code)) = None
 
 -- a method is the `main` of an entry, and can't be called

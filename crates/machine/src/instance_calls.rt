@@ -16,6 +16,7 @@ use crate::store::Store;
 use built_in::class_id::BuiltIn;
 use frame_instructions::control_transfer::is_null;
 use frame_instructions::operand_kind::OperandKind;
+use hierarchy::member::DeclaredMember;
 use program::Method;
 use program::runtime_constant::FieldKind;
 use vm_state::cells::Cells;
@@ -58,8 +59,8 @@ fn run_method<S: Store>(
 {
     match method {
         Some(Method::Given { class, index }) => {
-            let Execution { alloc, program, .. } = given;
-            reached(alloc, spares, program, class, index, frame, receiver.count)
+            let method = DeclaredMember { class, index };
+            reached(given, spares, frame, store, method, receiver.count)
         }
         Some(Method::BuiltIn(member)) => run_member(given, frame, store, member, receiver),
         None => Ok(Conclusion::Halts(FaultKind::Missing)),

@@ -1,7 +1,7 @@
 //! The linked program.
 
 ghost use Rattle.std.specs.Prelude.{◌≡◌, ◌≢◌, ◌<◌, ◌≤◌, ℕ, [], length, Option, Some, IfOk, MatchOption, option_copied};
-ghost use Rattle.std.specs.Prelude.{option_map, slice_get, IfSome, IsSome};
+ghost use Rattle.std.specs.Prelude.{option_map, slice_get, IsSome};
 ghost use Rattle.built_in.specs.declared.class_id.BuiltIn.TheVariants as builtins;
 ghost use Rattle.classfile.specs.Printing.{units_of};
 ghost use Rattle.classfile.specs.Units.{units_text};
@@ -11,12 +11,13 @@ ghost use Rattle.hierarchy.specs.Initialization.{IsInitializationOrder};
 ghost use Rattle.program.specs.Programs.{IsProgram, files_of};
 ghost use Rattle.program.specs.Tables.{Tables, implementations_of, instruction_at, implementation_at, constant_at};
 ghost use Rattle.program.specs.Natives.{class_of_native};
-ghost use Rattle.program.specs.Tables.{native_at, statics_in, order_in};
+ghost use Rattle.program.specs.declared.class.Implementation.TheVariants as implementations;
+ghost use Rattle.program.specs.declared.native.Native.{Native as NativeMethod};
+ghost use Rattle.program.specs.Tables.{statics_in, order_in};
 ghost use Rattle.program.specs.Tables.{initializer_in, main_in, signature_at};
 
 use crate::class::{Class, Implementation};
 use crate::class_text::class_text;
-use crate::native::Native;
 use crate::runtime_constant::RuntimeConstant;
 use crate::signature::Signature;
 use crate::slots::SlotTable;
@@ -143,15 +144,13 @@ impl Program {
         class.methods.methods.get(usize::from(method))
     }
 
-    /// The native method of a library that a method is.
-    pub fn native(&self, class: u32, method: u16) -> Option<Native>
-        ensures value { result ≡ native_at self.now class method }
-        ensures library { IfSome result (λ native. IsSome (substitute_in self.now.family (class_of_native native))) }
+    /// The law that natives are those of a library. It does nothing.
+    pub fn natives(&self)
+        ensures { (c k : ℕ) (native : NativeMethod)
+            → implementation_at self.now c k ≡ Some (implementations.Native native)
+            → IsSome (substitute_in self.now.family (class_of_native native)) }
     {
-        match self.implementation(class, method) {
-            Some(Implementation::Native(native)) => Some(*native),
-            _ => None,
-        }
+        let _classes = self.classes();
     }
 
     /// The instruction at a place of a method's body.

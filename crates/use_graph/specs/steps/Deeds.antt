@@ -34,6 +34,7 @@ abbrev pub body_in : Option Implementation → List Placed
 body_in (Some (implementations.Code code)) = code.body
 body_in (Some implementations.Abstract) = []
 body_in (Some implementations.Unsupported) = []
+body_in (Some (implementations.Native native)) = []
 body_in None = []
 
 abbrev pub deeds_in : Tables → ℕ → ℕ → List Deed
