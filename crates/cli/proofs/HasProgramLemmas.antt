@@ -243,7 +243,8 @@ denotes family f name = by (class_of family name) (stands family name)
     by (Some x) named = (x, named, refl)
 
 module _ (family : Family) (fits : IsFamily family) (within : AreParentsWithin family) where
-  finds_field : (f : ClassFile) (name : List ℕ) (key : NameAndType) → (r : Result Field Unresolved) × FindsField family f name key r
+  finds_field : (f : ClassFile) (name : List ℕ) (key : NameAndType)
+      → (r : Result Field Unresolved) × FindsField family f name key r
   finds_field f name key = by (denoted family f name) (denotes family f name)
     where
       found : (x : ClassId) → Denotes family f name (Some x)
@@ -252,7 +253,8 @@ module _ (family : Family) (fits : IsFamily family) (within : AreParentsWithin f
       found x named (None, lacks) = (Err Missing, FindsField.missing named lacks)
       found x named (Some m, is) = (Ok m, FindsField.found named is)
 
-      by : (x : Option ClassId) → Denotes family f name x → (r : Result Field Unresolved) × FindsField family f name key r
+      by : (x : Option ClassId) → Denotes family f name x
+          → (r : Result Field Unresolved) × FindsField family f name key r
       by None unknown = (Err Missing, FindsField.unknown unknown)
       by (Some x) named = found x named (field_of family fits within key x)
 

@@ -181,7 +181,7 @@ last_one (x ∷ xs) y = last_one xs y
 
 length_one_more : {A : Type 0} (xs : List A) (y : A) → length (xs ++ y ∷ []) ≡ length xs + 1
 length_one_more [] y = refl
-length_one_more (x ∷ xs) y = ap suc (length_one_more xs y)
+length_one_more (x ∷ xs) y = let rest = length_one_more xs y in omega (arith, rest)
 
 -- of so many of some built-in classes
 pub record AreReachedSoFar (family : Family) (bs : List BuiltIn) (n : ℕ) (reached : List Seen) : Type 0 where

@@ -6,6 +6,7 @@ use Rattle.std.specs.List.{Contains, flat_map, list_any}
 use Rattle.std.proofs.lemmas.Bool.{cases_lt, eqb-true, eq-eqb}
 use Rattle.std.proofs.lemmas.Bool.Decides.{same_from_decides}
 use Rattle.std.proofs.lemmas.Option.{same_Some, slice_get_past}
+use Rattle.std.proofs.lemmas.List.{get_or_default}
 use Rattle.std.proofs.lemmas.List.Elements.{Contains-append_left, Contains-append_right, Contains-append_cases}
 use Rattle.std.proofs.lemmas.List.Folds.{list_any_at}
 use Rattle.built_in.specs.declared.class_id.BuiltIn.{BuiltIn}
@@ -62,8 +63,8 @@ IsAtOrAbove family c d = (c ≡ d) ⊎ IsAncestor family c d
 
 -- a substitute that a class is directly below
 pub data IsDirectly (family : Family) (c : ℕ) (b : BuiltIn) : Type 0 where
-  end : IsTop family c b → IsDirectly family c b
-  at : {s : ℕ} → substitute_in family b ≡ Some s → IsAtOrAbove family c s → IsDirectly family c b
+  by_end : IsTop family c b → IsDirectly family c b
+  by_given : {s : ℕ} → substitute_in family b ≡ Some s → IsAtOrAbove family c s → IsDirectly family c b
 
 -- how a class is below another
 pub data IsUnder (family : Family) (c d : ℕ) : Type 0 where
@@ -118,7 +119,11 @@ is_above_if o m b e is has =
     subst (λ (z : Option ℕ). Contains (built_in_above_if z m b) e) (sym is) (rw (eq-eqb m m refl) has)
 
 listed_built_in : (b : BuiltIn) → Contains all_built_in b
-listed_built_in b = (number_of_built_in b, small b, stands_at b)
+listed_built_in b = (
+  number_of_built_in b,
+  small b,
+  get_or_default all_built_in (number_of_built_in b) b builtins.Object (small b) ∙ stands_at b,
+)
 
 same_built_in : (a b : BuiltIn) → is_same_built_in a b ≡ true → a ≡ b
 same_built_in a b is =
@@ -157,7 +162,7 @@ no_way family c d gone (b ∷ bs) =
     ∙ no_way family c d gone bs
   where
     by_case : (o : Option ℕ) → substitute_in family b ≡ o → is_by_way_of family c d b ≡ false
-    by_case None none = ap (λ (o : Option ℕ). is_reached_from family o d && is_directly_below family c b) none
+    by_case None lost = ap (λ (o : Option ℕ). is_reached_from family o d && is_directly_below family c b) lost
     by_case (Some s) some =
         (let other = all_substitutes family b s some builtins.Object in
         let no : None ≡ Some other.0 = sym gone ∙ other.1 in
@@ -231,12 +236,12 @@ module _ (family : Family) (fits : IsFamily family) (within : AreParentsWithin f
     by_superclass : (m d : ℕ) (e : BuiltIn) → IsAtOrAbove family c m
         → superclass_in family m ≡ Some (super.BuiltIn e) → substitute_in family e ≡ Some d → IsUnder family c d
     by_superclass m d e (inl same) is to =
-        IsUnder.beyond (IsDirectly.end (direct (ap (superclass_in family) same ∙ is))) to IsUp.itself
+        IsUnder.beyond (IsDirectly.by_end (direct (ap (superclass_in family) same ∙ is))) to IsUp.itself
     by_superclass m d e (inr above) is to = elim (end_above c m e above is) [
-      | inl ends ↦ IsUnder.beyond (IsDirectly.end ends) to IsUp.itself
+      | inl ends ↦ IsUnder.beyond (IsDirectly.by_end ends) to IsUp.itself
       | inr object ↦ (let top = top_of (superclasses_of family c fits within) (child_within above) in
           let s = all_substitutes family e d to top.0 in
-          IsUnder.beyond (IsDirectly.end top.1) s.1
+          IsUnder.beyond (IsDirectly.by_end top.1) s.1
           (to_object top.0 s.0 d s.1 (ap (substitute_in family) (sym object) ∙ to)))
     ]
 
@@ -251,14 +256,14 @@ module _ (family : Family) (fits : IsFamily family) (within : AreParentsWithin f
           | inr above ↦
               let from = from_flat_map (λ b. built_in_above_if (substitute_in family b) m b) all_built_in e above in
               let that = above_if_is (substitute_in family from.0) m from.0 e from.2 in
-              IsUnder.beyond (IsDirectly.at that.0 at) that.0 (IsUp.along IsUp.itself whole)
+              IsUnder.beyond (IsDirectly.by_given that.0 at) that.0 (IsUp.along IsUp.itself whole)
         ]
 
     under_step : (m d : ℕ) → IsUnder family c m → Contains (up_in family m) d → IsUnder family c d
     under_step m d under edge =
         elim (Contains-append_cases (parents_in family m) (substitutes_in family (built_in_above family m)) d edge) [
           | inl above ↦ by_parent m d under above edge
-          | inr beyond ↦ (let s = substitute_of_one family (built_in_above family m) d beyond in
+          | inr way ↦ (let s = substitute_of_one family (built_in_above family m) d way in
               by_substitute m d under s.0 s.1 s.2 edge)
         ]
 
@@ -275,7 +280,7 @@ module _ (family : Family) (fits : IsFamily family) (within : AreParentsWithin f
 
   ancestor_up : {c d : ℕ} → IsAncestor family c d → IsUp family c d
   ancestor_up {c} {d} (parent edge) = IsUp.along IsUp.itself (step_to_parent c d edge)
-  ancestor_up {c} {e} (further {d = m} up edge) = IsUp.along (ancestor_up up) (step_to_parent m e edge)
+  ancestor_up {d = e} (further {d = m} up edge) = IsUp.along (ancestor_up up) (step_to_parent m e edge)
 
   at_or_up : {c d : ℕ} → IsAtOrAbove family c d → IsUp family c d
   at_or_up {c} (inl same) = subst (λ (z : ℕ). IsUp family c z) same IsUp.itself
@@ -297,8 +302,8 @@ module _ (family : Family) (fits : IsFamily family) (within : AreParentsWithin f
 
   directly_up : {c : ℕ} {b : BuiltIn} (s : ℕ) → IsDirectly family c b → substitute_in family b ≡ Some s
       → IsUp family c s
-  directly_up s (IsDirectly.end top) to = end_up s top to
-  directly_up {c} s (IsDirectly.at {s = t} is at) to =
+  directly_up s (IsDirectly.by_end top) to = end_up s top to
+  directly_up {c} s (IsDirectly.by_given {s = t} is at) to =
       subst (λ (z : ℕ). IsUp family c z) (same_Some t s (sym is ∙ to)) (at_or_up at)
 
   under_up : {c d : ℕ} → IsUnder family c d → IsUp family c d
@@ -337,16 +342,16 @@ module _ (family : Family) (fits : IsFamily family) (within : AreParentsWithin f
       → (is_directly_below family c b ≡ true) ↔ IsDirectly family c b
   directly_tells c s b to = (
     (λ is. elim (either_is (is_end b (end_of_chain family c)) (is_under family c (substitute_in family b)) is) [
-      | inl ends ↦ IsDirectly.end (end_tells c b ends)
-      | inr under ↦ IsDirectly.at to ((under_tells c s).0 (sym (ap (is_under family c) to) ∙ under))
+      | inl ends ↦ IsDirectly.by_end (end_tells c b ends)
+      | inr under ↦ IsDirectly.by_given to ((under_tells c s).0 (sym (ap (is_under family c) to) ∙ under))
     ]),
     (λ directly. back directly),
   )
     where
       back : IsDirectly family c b → is_directly_below family c b ≡ true
-      back (IsDirectly.end top) =
+      back (IsDirectly.by_end top) =
           or_left (is_end b (end_of_chain family c)) (is_under family c (substitute_in family b)) (tells_end c b top)
-      back (IsDirectly.at {s = t} is at) =
+      back (IsDirectly.by_given {s = t} is at) =
           or_right (is_end b (end_of_chain family c)) (is_under family c (substitute_in family b))
           (ap (is_under family c) is ∙ (under_tells c t).1 at)
 

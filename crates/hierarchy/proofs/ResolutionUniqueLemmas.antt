@@ -32,11 +32,11 @@ same_field (ResolvesField.found {d = d} {k = k} g) (ResolvesField.found {d = e} 
     let m : DeclaredMember = record { class = d; index = k } in
     let n : DeclaredMember = record { class = e; index = l } in
     ap (λ (z : DeclaredMember). Some (field_at z)) (same_Some m n (same_search g h))
-same_field (ResolvesField.found g) (ResolvesField.missing h no) = let same = same_search g h in absurd cc
-same_field (ResolvesField.missing g no) (ResolvesField.found h) = let same = same_search g h in absurd cc
-same_field (ResolvesField.missing g no) (ResolvesField.missing h nor) = refl
-same_field (ResolvesField.missing g no) (ResolvesField.substitute_out h is out) = absurd (no is out)
-same_field (ResolvesField.substitute_out g is out) (ResolvesField.missing h no) = absurd (no is out)
+same_field (ResolvesField.found g) (ResolvesField.missing h bar) = let same = same_search g h in absurd cc
+same_field (ResolvesField.missing g bar) (ResolvesField.found h) = let same = same_search g h in absurd cc
+same_field (ResolvesField.missing g bar) (ResolvesField.missing h other) = refl
+same_field (ResolvesField.missing g bar) (ResolvesField.substitute_out h is out) = absurd (bar is out)
+same_field (ResolvesField.substitute_out g is out) (ResolvesField.missing h bar) = absurd (bar is out)
 same_field (ResolvesField.substitute_out g is out) (ResolvesField.substitute_out h at same) = refl
 same_field (ResolvesField.found g) (ResolvesField.substitute_out h is out) = let same = same_search g h in absurd cc
 same_field (ResolvesField.substitute_out g is out) (ResolvesField.found h) = let same = same_search g h in absurd cc

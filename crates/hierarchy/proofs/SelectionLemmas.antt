@@ -43,10 +43,10 @@ module _ (family : Family) (fits : IsFamily family) (within : AreParentsWithin f
       ap (λ (o : Option ℕ). found_from is_inherited family key (given_or (class.BuiltIn b) o)) is
 
   -- and where one for an array goes on
-  beyond_array : (key : NameAndType) {a : ArrayType} → IsNoArrayMember key
+  beyond_array : (key : NameAndType) (a : ArrayType) → IsNoArrayMember key
       → found_for family key (class.Array a)
       ≡ found_in_given family key (substitute_in family builtins.Object)
-  beyond_array key none =
+  beyond_array key a none =
       ap (λ (o : Option Method). option_or o (found_in_given family key (substitute_in family builtins.Object)))
       (sym (no_array_member_with key none))
 
@@ -64,10 +64,10 @@ module _ (family : Family) (fits : IsFamily family) (within : AreParentsWithin f
   by_key_value {key} (SelectsByKey.array {m = m} has is) =
       ap (λ (o : Option Method). option_or o (found_in_given family key (substitute_in family builtins.Object)))
       (array_member_with key m has is)
-  by_key_value {key} (SelectsByKey.no_array none gone) =
-      sym (beyond_array key none ∙ ap (found_in_given family key) gone)
-  by_key_value {key} (SelectsByKey.beyond_array none is found) =
-      by_key_value found ∙ sym (beyond_array key none ∙ ap (found_in_given family key) is)
+  by_key_value {key} (SelectsByKey.no_array {a = a} none gone) =
+      sym (beyond_array key a none ∙ ap (found_in_given family key) gone)
+  by_key_value {key} (SelectsByKey.beyond_array {a = a} none is found) =
+      by_key_value found ∙ sym (beyond_array key a none ∙ ap (found_in_given family key) is)
 
   pub selected_value : {x : ClassId} {m : Method} {r : Option Method} → Selects family x m r → r ≡ selected family x m
   unfolding selected

@@ -146,7 +146,7 @@ module _ (family : Family) where
 
   pub up_further : {c d e : ℕ} → IsUp family c d → IsUp family d e → IsUp family c e
   up_further up IsUp.itself = up
-  up_further up (IsUp.along more last) = IsUp.along (up_further up more) last
+  up_further up (IsUp.along rest last) = IsUp.along (up_further up rest) last
 
   here : (n c : ℕ) → Contains (reached_within n family c) c
   here zero c = first_of c []

@@ -1,6 +1,6 @@
 -- Files in another order make the same program, or have the same faults.
 use Rattle.std.proofs.Common.{◌≡◌, ℕ, zero, suc, ◌+◌, ◌<◌, ◌≤◌, ◌⊎◌, inl, inr, Bool, true, false, cond, List, [], ◌∷◌}
-use Rattle.std.proofs.Common.{length, Some, refl, sym, ap, subst, ◌∙◌, arith}
+use Rattle.std.proofs.Common.{length, Option, Some, None, option_map, refl, sym, ap, subst, ◌∙◌, arith}
 use Rattle.std.specs.List.{Contains, slice_get, sum_by}
 use Rattle.std.specs.List.Sorted.{IsPermutation}
 use Rattle.std.specs.Str.{bytes_eq}
@@ -14,7 +14,7 @@ use Rattle.classfile.specs.Units.{units_text}
 use Rattle.loading.specs.declared.fault.BadParent.{BadParent}
 use Rattle.loading.specs.declared.fault.LinkFault.{LinkFault}
 use Rattle.loading.specs.declared.fault.LinkFault.TheVariants.{Memory}
-use Rattle.loading.specs.Names.{name_of}
+use Rattle.loading.specs.Names.{name_of, superclass_of}
 use Rattle.built_in.specs.ClassNames.{substitute_name}
 use Rattle.loading.specs.Library.{has_library, is_own, extended_name, superclass_meant}
 use Rattle.loading.proofs.LibraryLemmas.{given_library, library_given}
@@ -191,7 +191,11 @@ extended_moved files moved f same name = rw same refl
 
 superclass_moved : (files moved : List ClassFile) (f : ClassFile) → has_library files ≡ has_library moved
     → superclass_meant files f ≡ superclass_meant moved f
-superclass_moved files moved f same = rw same refl
+superclass_moved files moved f same = of_name (superclass_of f)
+  where
+    of_name : (o : Option (List ℕ)) → option_map (extended_name files f) o ≡ option_map (extended_name moved f) o
+    of_name None = refl
+    of_name (Some name) = ap Some (extended_moved files moved f same name)
 
 bad_moved : (files moved : List ClassFile) → AreMoved files moved → (f : ClassFile) (kind : BadParent)
     → HasBadParent files f kind → HasBadParent moved f kind

@@ -47,17 +47,19 @@ number_none : (name : List ℕ) (i : ℕ) (files : List ClassFile) (j : ℕ) (g 
     → position_from (λ f. bytes_eq (name_of f) name) i files ≡ None → slice_get files j ≡ Some g → name_of g ≡ name → ⊥
 number_none name i [] j g e at-g is = absurd cc
 number_none name i (f ∷ files) j g e at-g is =
-    by_case (bytes_eq (name_of f) name) refl e j at-g
+    by_case (bytes_eq (name_of f) name) refl e j at-g (λ n none at. number_none name (i + 1) files n g none at is)
   where
     by_case : (b : Bool) → bytes_eq (name_of f) name ≡ b
         → cond b (Some i) (position_from (λ f. bytes_eq (name_of f) name) (i + 1) files) ≡ None
-        → (j : ℕ) → slice_get (f ∷ files) j ≡ Some g → ⊥
-    by_case true here e j at-g = absurd cc
-    by_case false here e zero at-g =
+        → (j : ℕ) → slice_get (f ∷ files) j ≡ Some g
+        → ((n : ℕ) → position_from (λ f. bytes_eq (name_of f) name) (i + 1) files ≡ None → slice_get files n ≡ Some g
+        → ⊥) → ⊥
+    by_case true here e j at-g rest = absurd cc
+    by_case false here e zero at-g rest =
         let same : f ≡ g = same_Some f g at-g in
         let yes : bytes_eq (name_of f) name ≡ true = (bytes_eq-Decides (name_of f) name).1 (ap name_of same ∙ is) in
         cc
-    by_case false here e (suc j) at-g = number_none name (i + 1) files j g e at-g is
+    by_case false here e (suc j) at-g rest = rest j e at-g
 
 pub number_is_given : (files : List ClassFile) (name : List ℕ) (d : ℕ) → number_among files name ≡ Some d
     → name_at files d ≡ Some name
@@ -134,11 +136,12 @@ each_passes p all b = by_case (p b) refl
 
 pub any_found : (p : BuiltIn → Bool) (bs : List BuiltIn) → list_any p bs ≡ true → (b : BuiltIn) × (p b ≡ true)
 any_found p [] e = absurd cc
-any_found p (b ∷ bs) e = by_case (p b) refl e
+any_found p (b ∷ bs) e = by_case (p b) refl e (any_found p bs)
   where
-    by_case : (t : Bool) → p b ≡ t → (t || list_any p bs) ≡ true → (b : BuiltIn) × (p b ≡ true)
-    by_case true is e = (b, is)
-    by_case false is e = any_found p bs e
+    by_case : (t : Bool) → p b ≡ t → (t || list_any p bs) ≡ true
+        → (list_any p bs ≡ true → (b : BuiltIn) × (p b ≡ true)) → (b : BuiltIn) × (p b ≡ true)
+    by_case true is e rest = (b, is)
+    by_case false is e rest = rest e
 
 -- ---- the library
 
@@ -350,10 +353,10 @@ itself_by b false h false n is = absurd cc
 other_by : (b : BuiltIn) (i h o : Bool) (n r : Option ℕ) → (i || o) ≡ false → cond h n None ≡ r
     → given_or (super.BuiltIn b) r
     ≡ cond (i || (h && o)) (super.BuiltIn b) (given_or (super.BuiltIn b) (cond h n None))
-other_by b true h o n r no is = absurd cc
-other_by b false h true n r no is = absurd cc
-other_by b false true false n r no is = sym (ap (given_or (super.BuiltIn b)) is)
-other_by b false false false n r no is = sym (ap (given_or (super.BuiltIn b)) is)
+other_by b true h o n r nor is = absurd cc
+other_by b false h true n r nor is = absurd cc
+other_by b false true false n r nor is = sym (ap (given_or (super.BuiltIn b)) is)
+other_by b false false false n r nor is = sym (ap (given_or (super.BuiltIn b)) is)
 
 pub means_itself : (files : List ClassFile) (f : ClassFile) (b : BuiltIn)
     → (is_interface f || bytes_eq (name_of f) (substitute_name b)) ≡ true
@@ -365,9 +368,9 @@ means_itself files f b is =
 pub means_other : (files : List ClassFile) (f : ClassFile) (b : BuiltIn) (r : Option ℕ)
     → (is_interface f || bytes_eq (name_of f) (substitute_name b)) ≡ false → substitute_among files b ≡ r
     → given_or (super.BuiltIn b) r ≡ meant files f (super.BuiltIn b)
-means_other files f b r no is =
+means_other files f b r nor is =
     other_by b (is_interface f) (has_library files) (bytes_eq (name_of f) (substitute_name b))
-    (number_among files (substitute_name b)) r no is
+    (number_among files (substitute_name b)) r nor is
 
 -- ---- what an interface extends
 
@@ -377,6 +380,6 @@ wants_object true false is = (refl, refl)
 wants_object false o is = absurd cc
 
 pub has_object : (i o : Bool) → (i && not o) ≡ false → i ≡ true → o ≡ true
-has_object true true no is = refl
-has_object true false no is = absurd cc
-has_object false o no is = absurd cc
+has_object true true nor is = refl
+has_object true false nor is = absurd cc
+has_object false o nor is = absurd cc

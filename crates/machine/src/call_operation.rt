@@ -6,7 +6,8 @@ ghost use Rattle.std.specs.List.{list_all};
 ghost use Rattle.program.specs.Fields.{has_value};
 ghost use Rattle.machine.specs.CallReferences.{of_class, of_interface, of_either, has_values, returns_value, if_signed};
 ghost use Rattle.machine.specs.CallReferences.{may_call_static, static_callee, invokestatic_of, is_static_target};
-ghost use Rattle.machine.specs.CallReferences.{names_stream, instance_call, instance_operation, virtual_callee};
+ghost use Rattle.machine.specs.CallReferences.{is_stream, is_numbered, names_stream, instance_call};
+ghost use Rattle.machine.specs.CallReferences.{instance_operation, virtual_callee};
 ghost use Rattle.machine.specs.CallReferences.{virtual_reference, invokevirtual_of, invokeinterface_of};
 ghost use Rattle.machine.specs.CallReferences.{found_special, special_callee, invokespecial_of};
 
@@ -191,14 +192,30 @@ fn is_static_target(program: &Program, method: Method) -> bool
     }
 }
 
-/// Whether a reference names `java.io.PrintStream`: the built-in class, or its substitute.
+fn is_stream(class: BuiltIn) -> bool
+    ensures { result ≡ is_stream class }
+{
+    matches!(class, BuiltIn::PrintStream)
+}
+
+fn is_numbered(number: Option<u32>, class: u32) -> bool
+    ensures { result ≡ is_numbered number class }
+{
+    match number {
+        Some(number) => number == class,
+        None => false,
+    }
+}
+
+/// Whether a reference names the class of `System.out`: `PrintStream`, or its substitute.
 fn names_stream(program: &Program, class: Option<ClassId>) -> bool
     ensures { result ≡ names_stream program.now.family class }
 {
     match class {
-        Some(ClassId::BuiltIn(class)) => matches!(class, BuiltIn::PrintStream),
-        Some(ClassId::Given(class)) => program.is_substitute(BuiltIn::PrintStream, class),
-        Some(ClassId::Array(_)) | None => false,
+        Some(ClassId::BuiltIn(class)) => is_stream(class),
+        Some(ClassId::Given(class)) => is_numbered(program.substitute(BuiltIn::PrintStream), class),
+        Some(ClassId::Array(_)) => false,
+        None => false,
     }
 }
 

@@ -202,9 +202,9 @@ classes_alike files F G links h g i x y at-x at-y =
     let in-F = contains_at F i x at-x in
     let in-G = contains_at G i y at-y in
     let up = superclasses_alike files F G links h same names x y (contains_at (files_in F) i x.file file-x) files-same
-    (All-contains (λ (c : GivenClass). superclass_of c.file ≡ superclass_name F c.superclass) F x
+    (All-contains (λ (c : GivenClass). superclass_meant (files_in F) c.file ≡ superclass_name F c.superclass) F x
     h.fits.superclass_names in-F)
-    (All-contains (λ (c : GivenClass). superclass_of c.file ≡ superclass_name G c.superclass) G y
+    (All-contains (λ (c : GivenClass). superclass_meant (files_in G) c.file ≡ superclass_name G c.superclass) G y
     g.fits.superclass_names in-G) in
     let beside = interfaces_alike F G h.fits names x y files-same
     (All-contains (λ (c : GivenClass). map Some (interfaces_of c.file) ≡ map (name_in F) c.interfaces) F x

@@ -31,38 +31,39 @@ use Rattle.program.proofs.SameListsLemmas.{item_within, same_list}
 
 -- ---- references
 
-same_id : {family : Family} {f : ClassFile} {name : List ℕ} {x y : ClassId} → IsFamily family
+same_id : {family : Family} (f : ClassFile) {name : List ℕ} {x y : ClassId} → IsFamily family
     → Denotes family f name (Some x) → Denotes family f name (Some y) → x ≡ y
-same_id {family} {f} {name} {x} {y} fits h g = one_denoted family fits f name x y h g
+same_id {family} f {name} {x} {y} fits h g = one_denoted family fits f name x y h g
 
 -- what the classes that a name denotes resolve to is one answer
-one_answer : {A : Type 0} {family : Family} {f : ClassFile} {name : List ℕ} {x y : ClassId} {r s : Option A}
+one_answer : {A : Type 0} {family : Family} (f : ClassFile) {name : List ℕ} {x y : ClassId} {r s : Option A}
     (Resolves : ClassId → Option A → Type 0) → (Resolves y r → Resolves y s → r ≡ s) → IsFamily family
     → Denotes family f name (Some x) → Resolves x r → Denotes family f name (Some y) → Resolves y s → r ≡ s
-one_answer {r = r} Resolves same fits s p t q = same (subst (λ (z : ClassId). Resolves z r) (same_id fits s t) p) q
+one_answer f {r = r} Resolves same fits s p t q =
+    same (subst (λ (z : ClassId). Resolves z r) (same_id f fits s t) p) q
 
 found_or_not : {A : Type 0} {m : A} → None ≡ Some m → ⊥
 found_or_not e = cc
 
-one_field : {family : Family} {f : ClassFile} {name : List ℕ} {key : NameAndType} {a b : Result Field Unresolved} → IsFamily family
-    → FindsField family f name key a → FindsField family f name key b → a ≡ b
+one_field : {family : Family} {f : ClassFile} {name : List ℕ} {key : NameAndType} {a b : Result Field Unresolved}
+    → IsFamily family → FindsField family f name key a → FindsField family f name key b → a ≡ b
 one_field fits (FindsField.unknown s) (FindsField.unknown t) = refl
 one_field fits (FindsField.unknown s) (FindsField.missing t p) = refl
 one_field fits (FindsField.unknown s) (FindsField.found t p) = absurd (s t.0 t.1)
 one_field fits (FindsField.missing s p) (FindsField.unknown t) = refl
 one_field fits (FindsField.missing s p) (FindsField.missing t q) = refl
-one_field {family} {key = key} fits (FindsField.missing s p) (FindsField.found t q) =
-    absurd (found_or_not (one_answer (ResolvesField family key) same_field fits s p t q))
+one_field {family} {f} {key = key} fits (FindsField.missing s p) (FindsField.found t q) =
+    absurd (found_or_not (one_answer f (ResolvesField family key) same_field fits s p t q))
 one_field fits (FindsField.found s p) (FindsField.unknown t) = absurd (t s.0 s.1)
-one_field {family} {key = key} fits (FindsField.found s p) (FindsField.missing t q) =
-    absurd (found_or_not (one_answer (ResolvesField family key) same_field fits t q s p))
-one_field {family} {key = key} fits (FindsField.found {x} {m} s p) (FindsField.found {x = y} {m = n} t q) =
-    ap Ok (same_Some m n (one_answer (ResolvesField family key) same_field fits s p t q))
+one_field {family} {f} {key = key} fits (FindsField.found s p) (FindsField.missing t q) =
+    absurd (found_or_not (one_answer f (ResolvesField family key) same_field fits t q s p))
+one_field {family} {f} {key = key} fits (FindsField.found {x} {m} s p) (FindsField.found {x = y} {m = n} t q) =
+    ap Ok (same_Some m n (one_answer f (ResolvesField family key) same_field fits s p t q))
 
-no_other_kind : {family : Family} {f : ClassFile} {name : List ℕ} {x y : ClassId} (wants : Bool) → IsFamily family
+no_other_kind : {family : Family} (f : ClassFile) {name : List ℕ} {x y : ClassId} (wants : Bool) → IsFamily family
     → Denotes family f name (Some x) → (is_interface_id family x ≡ wants → ⊥) → Denotes family f name (Some y)
     → is_interface_id family y ≡ wants → ⊥
-no_other_kind {family} wants fits s off t on = off (ap (is_interface_id family) (same_id fits s t) ∙ on)
+no_other_kind {family} f wants fits s off t on = off (ap (is_interface_id family) (same_id f fits s t) ∙ on)
 
 one_method : {family : Family} {f : ClassFile} {owner : _} {name : List ℕ} {key : NameAndType}
     {a b : Result Method Unresolved} → IsFamily family → FindsMethod family f owner name key a
@@ -73,23 +74,23 @@ one_method fits (FindsMethod.unknown s) (FindsMethod.missing t on q) = refl
 one_method fits (FindsMethod.unknown s) (FindsMethod.found t on q) = absurd (s t.0 t.1)
 one_method fits (FindsMethod.incompatible s off) (FindsMethod.unknown t) = absurd (t s.0 s.1)
 one_method fits (FindsMethod.incompatible s off) (FindsMethod.incompatible t also) = refl
-one_method {owner = owner} fits (FindsMethod.incompatible s off) (FindsMethod.missing t on q) =
-    absurd (no_other_kind (wants_interface owner) fits s off t on)
-one_method {owner = owner} fits (FindsMethod.incompatible s off) (FindsMethod.found t on q) =
-    absurd (no_other_kind (wants_interface owner) fits s off t on)
+one_method {f = f} {owner = owner} fits (FindsMethod.incompatible s off) (FindsMethod.missing t on q) =
+    absurd (no_other_kind f (wants_interface owner) fits s off t on)
+one_method {f = f} {owner = owner} fits (FindsMethod.incompatible s off) (FindsMethod.found t on q) =
+    absurd (no_other_kind f (wants_interface owner) fits s off t on)
 one_method fits (FindsMethod.missing s on p) (FindsMethod.unknown t) = refl
-one_method {owner = owner} fits (FindsMethod.missing s on p) (FindsMethod.incompatible t off) =
-    absurd (no_other_kind (wants_interface owner) fits t off s on)
+one_method {f = f} {owner = owner} fits (FindsMethod.missing s on p) (FindsMethod.incompatible t off) =
+    absurd (no_other_kind f (wants_interface owner) fits t off s on)
 one_method fits (FindsMethod.missing s on p) (FindsMethod.missing t also q) = refl
-one_method {family} {key = key} fits (FindsMethod.missing s on p) (FindsMethod.found t also q) =
-    absurd (found_or_not (one_answer (ResolvesMethod family key) same_method fits s p t q))
+one_method {family} {f} {key = key} fits (FindsMethod.missing s on p) (FindsMethod.found t also q) =
+    absurd (found_or_not (one_answer f (ResolvesMethod family key) same_method fits s p t q))
 one_method fits (FindsMethod.found s on p) (FindsMethod.unknown t) = absurd (t s.0 s.1)
-one_method {owner = owner} fits (FindsMethod.found s on p) (FindsMethod.incompatible t off) =
-    absurd (no_other_kind (wants_interface owner) fits t off s on)
-one_method {family} {key = key} fits (FindsMethod.found s on p) (FindsMethod.missing t also q) =
-    absurd (found_or_not (one_answer (ResolvesMethod family key) same_method fits t q s p))
-one_method {family} {key = key} fits (FindsMethod.found {x} {m} s on p) (FindsMethod.found {x = y} {m = n} t also q) =
-    ap Ok (same_Some m n (one_answer (ResolvesMethod family key) same_method fits s p t q))
+one_method {f = f} {owner = owner} fits (FindsMethod.found s on p) (FindsMethod.incompatible t off) =
+    absurd (no_other_kind f (wants_interface owner) fits t off s on)
+one_method {family} {f} {key = key} fits (FindsMethod.found s on p) (FindsMethod.missing t also q) =
+    absurd (found_or_not (one_answer f (ResolvesMethod family key) same_method fits t q s p))
+one_method {family} {f} {key = key} fits (FindsMethod.found {x} {m} s on p) (FindsMethod.found {x = y} {m = n} t also q) =
+    ap Ok (same_Some m n (one_answer f (ResolvesMethod family key) same_method fits s p t q))
 
 -- ---- one constant
 

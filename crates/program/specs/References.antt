@@ -49,8 +49,8 @@ wants_interface owners.Interface = true
 
 -- The method that such a class has. A Methodref may not name an interface, and an InterfaceMethodref must (JVMS
 -- 5.4.3.3, 5.4.3.4).
-pub data FindsMethod (family : Family) (f : ClassFile) (owner : MethodOwner) (name : List ℕ) (key : NameAndType) : Result Method
-    Unresolved → Type 0 where
+pub data FindsMethod (family : Family) (f : ClassFile) (owner : MethodOwner) (name : List ℕ) (key : NameAndType) :
+    Result Method Unresolved → Type 0 where
   unknown : Denotes family f name None → FindsMethod family f owner name key (Err Missing)
   incompatible : {x : ClassId} → Denotes family f name (Some x) → is_interface_id family x ≢ wants_interface owner
       → FindsMethod family f owner name key (Err Incompatible)

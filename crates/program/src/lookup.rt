@@ -2,6 +2,7 @@
 //! invokespecial).
 
 ghost use Rattle.std.specs.Prelude.{◌≡◌, ◌↔◌, ℕ, OnOk};
+ghost use Rattle.loading.specs.Families.{substitute_in};
 ghost use Rattle.hierarchy.specs.Initialization.{AreSuperclasses};
 ghost use Rattle.program.specs.References.{ResolvesFieldOf, ResolvesMethodOf};
 ghost use Rattle.hierarchy.specs.Resolution.{Selects};
@@ -68,6 +69,14 @@ impl Program {
         ensures { result ≡ has_slots_of self.now.family other class }
     {
         self.hierarchy.has_slots_of(class, other)
+    }
+
+    /// The number of a built-in class's substitute: of the class that stands for it. None where the library is not
+    /// there.
+    pub fn substitute(&self, class: BuiltIn) -> Option<u32>
+        ensures { result ≡ substitute_in self.now.family class }
+    {
+        self.hierarchy.family().substitute(class)
     }
 
     /// Whether the second of two given classes is a superclass of the first.

@@ -70,7 +70,8 @@ fn is_interface(hierarchy: &Hierarchy, class: ClassId) -> bool
 impl Resolver<'_> {
     /// The class that the Class at an index names.
     pub(crate) fn class_at(&self, index: u16) -> Option<ClassId>
-        ensures { Denotes self.now.hierarchy.now.family self.now.file.now (class_name_at self.now.file.now index) result }
+        ensures { Denotes self.now.hierarchy.now.family self.now.file.now
+            (class_name_at self.now.file.now index) result }
     {
         self.named.class_at(index)
     }
@@ -99,8 +100,8 @@ impl Resolver<'_> {
         member: MemberName,
     ) -> Result<Result<Field, Unresolved>, AllocError>
         requires members { members.old ≡ self.now.hierarchy.now }
-        ensures field { IfOk result (FindsField self.now.hierarchy.now.family self.now.file.now (class_name_at self.now.file.now class)
-            (named_in self.now.hierarchy.now.family member)) }
+        ensures field { IfOk result (FindsField self.now.hierarchy.now.family self.now.file.now
+            (class_name_at self.now.file.now class) (named_in self.now.hierarchy.now.family member)) }
         ensures kept { members.new ≡ members.old }
     {
         let Some(class) = self.class_at(class) else {

@@ -7,6 +7,6 @@ abbrev pub invariant-loop-built_in : goal.invariant-loop-built_in
 invariant-loop-built_in l = record {
   len : length l.graph ≡ length l.initial.graph;
   own : successors_of l.graph l.class
-      ≡ successors_of l.initial.graph l.class ++ substitutes_in l.family (take l.built_in-index l.built_in-items);
+      ≡ successors_of l.initial.graph l.class ++ substitutes_in l.family (take l.built_in-index l.above);
   others : (c : ℕ) → (c ≡ l.class → ⊥) → successors_of l.graph c ≡ successors_of l.initial.graph c;
 }

@@ -19,7 +19,7 @@ pub loop-class-preserved : goal.loop-class-preserved
 loop-class-preserved c =
     reached_more c.args.family.now c.classes-classes.ensures.within c.args.graph.now c.requires
     c.all-class-items.result.now c.loop-class.class-index _ c.in-Some.substitute _ _ _ c.loop-class-test.true
-    (sym c.substitute.ensures.value ∙ c.in-Some.is) c.in_ok-reach.ensures.members c.in_ok-push.ensures.items
+    (sym c.substitute.ensures.value ∙ c.in-Some.is) c.in_ok-reach-in-Some.ensures.members c.in_ok-push-in-Some.ensures.items
     c.loop-class.invariant
 
 pub returns-in-None : goal.returns-in-None

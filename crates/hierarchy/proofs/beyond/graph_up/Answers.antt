@@ -9,6 +9,6 @@ loop-class-preserved c =
 
 pub returns : goal.returns
 returns c =
-    let count : length c.classes.result.now ≡ length c.args.family.now = ap length c.classes.ensures.value in
+    let count : length c.classes-count.result.now ≡ length c.args.family.now = ap length c.classes-count.ensures.value in
     all_steps c.args.family.now c.loop-class.class c.loop-class.graph
-    (omega (arith, c.loop-class-test.false, c.len-count.ensures, count)) c.loop-class.invariant
+    (omega (arith, c.loop-class-test.false, count)) c.loop-class.invariant

@@ -7,7 +7,7 @@ pub loop-class-preserved : goal.loop-class-preserved
 loop-class-preserved c =
     numbers_more c.args.files.now c.all-class-items.result.now c.loop-class.class-index _ c.in-Some.number
     c.loop-class.numbers.items _ c.loop-class-test.true (sym c.substitute_number.ensures ∙ c.in-Some.is)
-    c.in_ok-push.ensures.items c.loop-class.invariant
+    c.in_ok-push-in-Some.ensures.items c.loop-class.invariant
 
 pub returns-in-None : goal.returns-in-None
 returns-in-None c =

@@ -1,4 +1,4 @@
-use Rattle.std.proofs.Common.{◌≡◌, ◌∙◌, ⊥, ℕ, List, Some, subst}
+use Rattle.std.proofs.Common.{◌≡◌, ◌∙◌, ℕ, List, Some, subst}
 use Rattle.std.specs.Option.{MatchOption}
 use Rattle.built_in.specs.ClassNames.{substitute_name}
 use Rattle.loading.specs.Files.{IsGiven}

@@ -10,5 +10,5 @@ returns-in-Some c =
     let name = c.in-Some-Class.name in
     let at : slice_get f.constants c.args.index ≡ Some (constants.Class name) =
     sym c.in-Some-Class.ensures ∙ ap Some c.in-Some-Class.field-0-is in
-    subst (λ n. Denotes c.args.family.now c.args.file.now n c.in-Some.class) (sym (class_name_is f c.args.index name at))
+    subst (λ n. Denotes c.args.family.now f n c.in-Some.class) (sym (class_name_is f c.args.index name at))
     (c.requires name c.in-Some.class (sym c.noted.ensures ∙ c.in-Some.is))
