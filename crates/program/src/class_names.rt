@@ -187,7 +187,7 @@ impl Program {
     pub fn has_library(&self) -> bool
         ensures { result ≡ is_some (substitute_in self.now.family builtins.String) }
     {
-        self.family().substitute(BuiltIn::String).is_some()
+        self.substitute(BuiltIn::String).is_some()
     }
 
     /// Whether a given class is a built-in one's substitute.
