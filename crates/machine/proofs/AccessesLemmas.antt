@@ -9,6 +9,7 @@ use Rattle.machine.specs.declared.kinds.Conclusion.{Conclusion}
 use Rattle.machine.specs.declared.kinds.Conclusion.TheVariants.{Stays, Becomes, Calls, Returns, Prints, Raises, Halts}
 use Rattle.semantics.specs.Rows.{Row, UseClass}
 use Rattle.built_in.specs.declared.class_id.BuiltIn.TheVariants.{NoClassDefFoundError}
+use Rattle.program.specs.Tables.{Tables}
 use Rattle.machine.specs.RowParts.{raises, if_usable}
 use Rattle.machine.specs.Accesses.{Kept, KeptBy, Untouched, Gives, Leads, unless_refused}
 
@@ -57,14 +58,14 @@ gives_on stopped old on new row other f (Ok k) same is = same ∙ is
 gives_on stopped old on new row other f (Err stop) same is = ap (unless_refused stop) same ∙ is
 
 -- one that needs a class whose initialization failed
-pub fails_at_class : {A : Type 0} (stopped : Stop → A) (old new : Row → A) (c : ℕ) (usable : Bool) (row : Row)
+pub fails_at_class : {A : Type 0} (P : Tables) (stopped : Stop → A) (old new : Row → A) (c : ℕ) (usable : Bool) (row : Row)
     (f : Frame) (r : Result Conclusion Stop) → ((next : Bool → Row) → old (UseClass c next) ≡ old (next usable))
-    → usable ≡ false → Gives stopped old new (raises NoClassDefFoundError) f r
-    → Gives stopped old new (UseClass c (if_usable row)) f r
-fails_at_class stopped old new c usable row f r asked failed is =
-    let leads : old (UseClass c (if_usable row)) ≡ old (raises NoClassDefFoundError) =
-    rw failed at (asked (if_usable row)) in
-    gives_at stopped old new (raises NoClassDefFoundError) (UseClass c (if_usable row)) f r leads is
+    → usable ≡ false → Gives stopped old new (raises P NoClassDefFoundError) f r
+    → Gives stopped old new (UseClass c (if_usable P row)) f r
+fails_at_class P stopped old new c usable row f r asked failed is =
+    let leads : old (UseClass c (if_usable P row)) ≡ old (raises P NoClassDefFoundError) =
+    rw failed at (asked (if_usable P row)) in
+    gives_at stopped old new (raises P NoClassDefFoundError) (UseClass c (if_usable P row)) f r leads is
 
 -- an access of which a row asks in other words
 pub leads_at : {A B : Type 0} (stopped : Stop → A) (old new : Row → A) (access other : (B → Row) → Row)

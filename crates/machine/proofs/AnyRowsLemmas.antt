@@ -3,7 +3,7 @@
 -- instruction's class may be used.
 use Rattle.std.proofs.Common.{◌≡◌, refl, if◌then◌else◌}
 use Rattle.std.proofs.Common.{ℕ, ℤ, ◌+◌, Bool, true, false, cond, List, [], ◌∷◌, Option, Some, None, Ok, Err, length}
-use Rattle.std.proofs.Common.{not, ◌&&◌, replicate}
+use Rattle.std.proofs.Common.{not, ◌&&◌, map, replicate}
 use Rattle.std.specs.Prelude.{nat_le}
 use Rattle.std.specs.declared.result.Result.{Result}
 use Rattle.bytecode.specs.declared.operand.ElementKind.{ElementKind}
@@ -25,7 +25,10 @@ use Rattle.vm_state.specs.Operands.{OperandStack, pushed, top, top_int, rest, dr
 use Rattle.vm_state.specs.Values.{int_of, name_of, value_of}
 use Rattle.semantics.specs.Moves.{advanced, with_operands}
 use Rattle.semantics.specs.Rows.{Move, Stays, Next, Raise, Halt, Part, Row, Ends, AskClass, LookInto, Change, Make}
-use Rattle.semantics.specs.Rows.{Print as PrintText}
+use Rattle.semantics.specs.Rows.{Print as PrintText, int_length}
+use Rattle.classfile.specs.Printing.{printed_units}
+use Rattle.loading.specs.ClassIds.{given_or}
+use Rattle.loading.specs.Families.{substitute_in}
 use Rattle.hierarchy.specs.declared.member.Method.{Method}
 use Rattle.hierarchy.specs.declared.member.Method.TheVariants as methods
 use Rattle.hierarchy.specs.Selection.{selected}
@@ -33,6 +36,11 @@ use Rattle.hierarchy.specs.Subtypes.{is_below}
 use Rattle.program.specs.declared.class.Implementation.{Implementation}
 use Rattle.program.specs.declared.class.Implementation.TheVariants as implementations
 use Rattle.program.specs.declared.runtime_constant.FieldKind.{FieldKind}
+use Rattle.program.specs.declared.native.Native.{Native}
+use Rattle.program.specs.declared.native.Native.TheVariants as natives
+use Rattle.program.specs.ClassNames.{class_number, class_units}
+use Rattle.program.specs.NewObjects.{blank_slots}
+use Rattle.program.specs.Programs.{zero_of as zero_of_field}
 use Rattle.program.specs.Tables.{Tables, implementation_at, initializer_in}
 use Rattle.frame_instructions.specs.declared.operand_kind.OperandKind.TheVariants.{Int, Reference}
 use Rattle.frame_instructions.specs.declared.trap.Trap.{Trap}
@@ -48,12 +56,12 @@ use Rattle.machine.specs.declared.call_operation.StaticCall.{StaticCall}
 use Rattle.machine.specs.declared.object_operation.InstanceField.{InstanceField}
 use Rattle.machine.specs.Initializers.{is_method}
 use Rattle.machine.specs.StoredKinds.{top_stored, extra_places}
-use Rattle.machine.specs.RowParts.{halts, needing, goes_on, push, drops, raises, if_usable}
+use Rattle.machine.specs.RowParts.{halts, needing, goes_on, push, drops, raises, raises_new, if_usable}
 use Rattle.machine.specs.ObjectParts.{slot_in, size_in, set_named, on_name, class_of_nameless, ask_class_of}
 use Rattle.machine.specs.ObjectParts.{without_object, with_object}
 use Rattle.machine.specs.Objects.{new_object, is_of, is_enum_object, ask_is_of, cast_row, check_cast, int_of_boolean}
 use Rattle.machine.specs.Objects.{instance_of}
-use Rattle.machine.specs.Objects.{throw_of, throw_row, is_holder, on_holder, get_field, put_field}
+use Rattle.machine.specs.Objects.{throw_of, throw_row, is_blank, is_holder, on_holder, get_held, get_field, put_field}
 use Rattle.machine.specs.Arrays.{unless_trapped, array_type, served_type, slot_at, size_of, make_array, array_length}
 use Rattle.machine.specs.Arrays.{at_element, load_element, is_checked, if_held, can_hold, check_store, store_element}
 use Rattle.machine.specs.Arrays.{stored_as, array_row, type_of_primitives, zero_of}
@@ -61,7 +69,10 @@ use Rattle.machine.specs.Members.{on_enum, name_once, new_enum, replaced, or_slo
 use Rattle.machine.specs.Members.{member_row}
 use Rattle.machine.specs.Calls.{parameters_at, has_arguments, receiver_under, reaches, reached, enter_static, runs}
 use Rattle.machine.specs.Calls.{runs_chosen, is_out, called_on, call_instance}
-use Rattle.machine.specs.Printing.{printed_text, ended, print_on, print_value, end_line}
+use Rattle.machine.specs.MadeStrings.{is_chars, is_string_object, ask_chars, ask_chars_of, ask_made_string}
+use Rattle.machine.specs.Natives.{units_at, unit_at, unit_or_raise, with_class, chars, char_of, native_row}
+use Rattle.machine.specs.Printing.{printed_text, object_printed, ended, print_on, print_made, print_plain, print_value}
+use Rattle.machine.specs.Printing.{end_line}
 use Rattle.machine.specs.Table.{call_main}
 use Rattle.built_in.specs.declared.method.Printed.{Printed}
 use Rattle.machine.proofs.TableLemmas.{needing_any, if_usable_any, unless_null_any, called_any}
@@ -118,8 +129,12 @@ int_top None n e = cc
 int_top (Some v) n e = (v, refl)
 
 module _ (Is : Row → Type 0) (HasRoom : Frame → Type 0) (up : GoesUp Is HasRoom) where
-  pub raised_any : (class : BuiltInClass) → Is (raises class)
-  raised_any class = up.made_built_in class [] _ (λ x. up.raised x (BuiltIn class))
+  raised_new_any : (P : Tables) (b : BuiltInClass) (o : Option ℕ) → Is (raises_new P (given_or (BuiltIn b) o))
+  raised_new_any P b None = up.made_built_in b [] _ (λ x. up.raised x (BuiltIn b))
+  raised_new_any P b (Some d) = up.made_given d (blank_slots P.family (Given d)) _ (λ x. up.raised x (Given d))
+
+  pub raised_any : (P : Tables) (class : BuiltInClass) → Is (raises P class)
+  raised_any P class = raised_new_any P class (substitute_in P.family class)
 
   -- ---- what rows are made of
 
@@ -130,8 +145,8 @@ module _ (Is : Row → Type 0) (HasRoom : Frame → Type 0) (up : GoesUp Is HasR
   either_any true r q one other = one
   either_any false r q one other = other
 
-  pub usable_any : (r : Row) → Is r → (b : Bool) → Is (if_usable r b)
-  usable_any r on b = if_usable_any Is up.halted raised_any r b on
+  pub usable_any : (P : Tables) (r : Row) → Is r → (b : Bool) → Is (if_usable P r b)
+  usable_any P r on b = if_usable_any Is up.halted P (raised_any P) r b on
 
   pub pushed_any : (v : Value) (f : Frame) → Is (push v f)
   pushed_any v f = needed_any (pushed v f.operands) _ (λ s. up.stayed _ _ _)
@@ -141,17 +156,17 @@ module _ (Is : Row → Type 0) (HasRoom : Frame → Type 0) (up : GoesUp Is HasR
   named_any None other go otherwise on = otherwise
   named_any (Some x) other go otherwise on = on x
 
-  nameless_any : (v : Value) → Is (without_object v)
-  nameless_any values.Null = raised_any builtins.NullPointerException
-  nameless_any (values.Text s) = up.halted _
-  nameless_any values.Out = up.halted _
-  nameless_any (values.OfClass c k) = up.halted _
-  nameless_any (values.OfThread t k) = up.halted _
-  nameless_any (values.Int n) = up.halted _
-  nameless_any (values.Long n) = up.halted _
+  nameless_any : (P : Tables) (v : Value) → Is (without_object P v)
+  nameless_any P values.Null = raised_any P builtins.NullPointerException
+  nameless_any P (values.Text s) = up.halted _
+  nameless_any P values.Out = up.halted _
+  nameless_any P (values.OfClass c k) = up.halted _
+  nameless_any P (values.OfThread t k) = up.halted _
+  nameless_any P (values.Int n) = up.halted _
+  nameless_any P (values.Long n) = up.halted _
 
-  object_any : (v : Value) (go : Name → Row) → ((x : Name) → Is (go x)) → Is (with_object v go)
-  object_any v go on = named_any (name_of v) (without_object v) go (nameless_any v) on
+  object_any : (P : Tables) (v : Value) (go : Name → Row) → ((x : Name) → Is (go x)) → Is (with_object P v go)
+  object_any P v go on = named_any (name_of v) (without_object P v) go (nameless_any P v) on
 
   pub class_any : (v : Value) (next : Option ClassId → Row) → ((o : Option ClassId) → Is (next o))
       → Is (ask_class_of v next)
@@ -159,67 +174,68 @@ module _ (Is : Row → Type 0) (HasRoom : Frame → Type 0) (up : GoesUp Is HasR
       named_any (name_of v) (next (class_of_nameless v)) (λ x. AskClass x next) (on (class_of_nameless v)) (λ x.
       up.asked x next on)
 
-  trapped_any : {A : Type 0} (r : Result A Trap) (go : A → Row) → ((a : A) → Is (go a)) → Is (unless_trapped r go)
-  trapped_any (Ok a) go on = on a
-  trapped_any (Err traps.Fault) go on = up.halted _
-  trapped_any (Err (traps.Raise class)) go on = raised_any class
+  trapped_any : {A : Type 0} (P : Tables) (r : Result A Trap) (go : A → Row) → ((a : A) → Is (go a))
+      → Is (unless_trapped P r go)
+  trapped_any P (Ok a) go on = on a
+  trapped_any P (Err traps.Fault) go on = up.halted _
+  trapped_any P (Err (traps.Raise class)) go on = raised_any P class
 
   -- ---- arrays
 
-  made_any : (a : ArrayType) (first : Value) (f : Frame) → Is (make_array a first f)
-  made_any a first f =
+  made_any : (P : Tables) (a : ArrayType) (first : Value) (f : Frame) → Is (make_array P a first f)
+  made_any P a first f =
       needing_any Is up.halted (top_int f.operands) _ (λ count is.
       let on_top = int_top (top f.operands) count is in
-      trapped_any (size_of count) _ (λ size.
+      trapped_any P (size_of count) _ (λ size.
       up.made_array a (replicate size first) f (up.room f 0 on_top.0 on_top.1)))
 
-  length_any : (f : Frame) → Is (array_length f)
-  length_any f =
+  length_any : (P : Tables) (f : Frame) → Is (array_length P f)
+  length_any P f =
       needed_any (top_as Reference f.operands) _ (λ array.
-      object_any array _ (λ name.
+      object_any P array _ (λ name.
       up.asked name _ (λ class.
-      trapped_any (array_type class) _ (λ a.
+      trapped_any P (array_type class) _ (λ a.
       up.looked name _ _ (λ vs.
       needed_any (int_of (slot_in vs 0)) (λ n. push (values.Int n) (with_operands f (rest f.operands)))
       (λ n. pushed_any (values.Int n) (with_operands f (rest f.operands))))))))
 
-  element_any : (kind : ElementKind) (array : Value) (index : ℤ) (go : Name → ArrayType → ℕ → Row)
-      → ((name : Name) (a : ArrayType) (slot : ℕ) → Is (go name a slot)) → Is (at_element kind array index go)
-  element_any kind array index go on =
-      object_any array _ (λ name.
+  element_any : (P : Tables) (kind : ElementKind) (array : Value) (index : ℤ) (go : Name → ArrayType → ℕ → Row)
+      → ((name : Name) (a : ArrayType) (slot : ℕ) → Is (go name a slot)) → Is (at_element P kind array index go)
+  element_any P kind array index go on =
+      object_any P array _ (λ name.
       up.asked name _ (λ class.
-      trapped_any (served_type kind class) _ (λ a.
+      trapped_any P (served_type kind class) _ (λ a.
       up.looked name _ _ (λ vs.
-      trapped_any (slot_at index (size_in vs)) (go name a) (on name a)))))
+      trapped_any P (slot_at index (size_in vs)) (go name a) (on name a)))))
 
-  loaded_any : (kind : ElementKind) (f : Frame) → Is (load_element kind f)
-  loaded_any kind f =
+  loaded_any : (P : Tables) (kind : ElementKind) (f : Frame) → Is (load_element P kind f)
+  loaded_any P kind f =
       needed_any (top_int f.operands) _ (λ index.
       needed_any (top_as Reference (rest f.operands)) _ (λ array.
-      element_any kind array index _ (λ name a slot.
+      element_any P kind array index _ (λ name a slot.
       up.looked name _ _ (λ vs.
       needed_any (slot_in vs slot) _ (λ v. pushed_any v (with_operands f (rest (rest f.operands))))))))
 
-  held_any : (b : Bool) (row : Row) → Is row → Is (if_held b row)
-  held_any true row on = on
-  held_any false row on = raised_any builtins.ArrayStoreException
+  held_any : (P : Tables) (b : Bool) (row : Row) → Is row → Is (if_held P b row)
+  held_any P true row on = on
+  held_any P false row on = raised_any P builtins.ArrayStoreException
 
   check_any : (P : Tables) (a : ArrayType) (v : Value) (row : Row) → Is row → Is (check_store P a v row)
   check_any P a v row on =
       either_any (is_checked v) (ask_class_of v checked) row
-      (class_any v checked (λ o. needed_any o (λ class. if_held (can_hold P a class) row) (λ class.
-      held_any (can_hold P a class) row on)))
+      (class_any v checked (λ o. needed_any o (λ class. if_held P (can_hold P a class) row) (λ class.
+      held_any P (can_hold P a class) row on)))
       on
     where
       checked : Option ClassId → Row
-      checked o = needing o (λ class. if_held (can_hold P a class) row)
+      checked o = needing o (λ class. if_held P (can_hold P a class) row)
 
   stored_any : GoesUpChange Is → (P : Tables) (kind : ElementKind) (f : Frame) → Is (store_element P kind f)
   stored_any changed P kind f =
       needed_any (top_stored (stored_as kind) f.operands) _ (λ v.
       needed_any (top_int (rest f.operands)) _ (λ index.
       needed_any (top_as Reference (rest (rest f.operands))) _ (λ array.
-      element_any kind array index (λ name a slot. check_store P a v (put name slot v)) (λ name a slot.
+      element_any P kind array index (λ name a slot. check_store P a v (put name slot v)) (λ name a slot.
       check_any P a v (put name slot v) (changed name slot v _ (up.stayed _ _ _))))))
     where
       put : Name → ℕ → Value → Row
@@ -227,10 +243,10 @@ module _ (Is : Row → Type 0) (HasRoom : Frame → Type 0) (up : GoesUp Is HasR
 
   pub array_any : (P : Tables) → OfChanges Is P → (operation : ArrayOperation) (f : Frame)
       → Is (array_row P operation f)
-  array_any P changes (arrays.New kind) f = made_any (type_of_primitives kind) (zero_of kind) f
-  array_any P changes (arrays.NewOfReferences a) f = made_any a values.Null f
-  array_any P changes arrays.Length f = length_any f
-  array_any P changes (arrays.Load kind) f = loaded_any kind f
+  array_any P changes (arrays.New kind) f = made_any P (type_of_primitives kind) (zero_of kind) f
+  array_any P changes (arrays.NewOfReferences a) f = made_any P a values.Null f
+  array_any P changes arrays.Length f = length_any P f
+  array_any P changes (arrays.Load kind) f = loaded_any P kind f
   array_any P changes (arrays.Store kind) f = changes.stored kind f
 
   -- ---- objects
@@ -248,12 +264,12 @@ module _ (Is : Row → Type 0) (HasRoom : Frame → Type 0) (up : GoesUp Is HasR
   pub cast_any : (P : Tables) (class : ClassId) (f : Frame) → Is (check_cast P class f)
   cast_any P class f =
       needed_any (top_as Reference f.operands)
-      (λ v. cond (is_null v) (goes_on (advanced f)) (ask_is_of P class v (cast_row f)))
+      (λ v. cond (is_null v) (goes_on (advanced f)) (ask_is_of P class v (cast_row P f)))
       (λ v.
-      either_any (is_null v) (goes_on (advanced f)) (ask_is_of P class v (cast_row f)) (up.stayed _ _ _)
-      (class_any v (λ o. cast_row f (is_of P class o)) (λ o.
-      either_any (is_of P class o) (goes_on (advanced f)) (raises builtins.ClassCastException) (up.stayed _ _ _)
-      (raised_any builtins.ClassCastException))))
+      either_any (is_null v) (goes_on (advanced f)) (ask_is_of P class v (cast_row P f)) (up.stayed _ _ _)
+      (class_any v (λ o. cast_row P f (is_of P class o)) (λ o.
+      either_any (is_of P class o) (goes_on (advanced f)) (raises P builtins.ClassCastException) (up.stayed _ _ _)
+      (raised_any P builtins.ClassCastException))))
 
   pub instance_any : (P : Tables) (class : ClassId) (f : Frame) → Is (instance_of P class f)
   instance_any P class f =
@@ -271,21 +287,23 @@ module _ (Is : Row → Type 0) (HasRoom : Frame → Type 0) (up : GoesUp Is HasR
   pub throw_any : (P : Tables) (f : Frame) → Is (throw_row P f)
   throw_any P f =
       needed_any (top_as Reference f.operands) _ (λ v.
-      object_any v _ (λ x. up.asked x (throw_of P x) (thrown_any P x)))
+      object_any P v _ (λ x. up.asked x (throw_of P x) (thrown_any P x)))
 
   holder_any : (P : Tables) (field : InstanceField) (v : Value) (go : Name → Row) → ((x : Name) → Is (go x))
       → Is (on_holder P field v go)
   holder_any P field v go on =
-      object_any v _ (λ x.
+      object_any P v _ (λ x.
       up.asked x _ (λ o. either_any (is_holder P field.class o) (go x) _ (on x) (up.halted _)))
 
   pub got_any : (P : Tables) (field : InstanceField) (f : Frame) → Is (get_field P field f)
   got_any P field f =
       needed_any (top_as Reference f.operands) _ (λ v.
       either_any (nat_le (extra_places field.kind) f.operands.free) _ _
+      (either_any (is_blank P field v) (push (zero_of_field field.kind) (with_operands f (rest f.operands)))
+      (get_held P field v f) (pushed_any (zero_of_field field.kind) (with_operands f (rest f.operands)))
       (holder_any P field v _ (λ x.
       up.looked x _ _ (λ vs.
-      needed_any (slot_in vs field.slot) _ (λ held. pushed_any held (with_operands f (rest f.operands))))))
+      needed_any (slot_in vs field.slot) _ (λ held. pushed_any held (with_operands f (rest f.operands)))))))
       (up.halted _))
 
   pub put_any : GoesUpChange Is → (P : Tables) (field : InstanceField) (f : Frame) → Is (put_field P field f)
@@ -298,7 +316,7 @@ module _ (Is : Row → Type 0) (HasRoom : Frame → Type 0) (up : GoesUp Is HasR
 
   enum_any : (P : Tables) (v : Value) (go : Name → Row) → ((x : Name) → Is (go x)) → Is (on_enum P v go)
   enum_any P v go on =
-      object_any v _ (λ x.
+      object_any P v _ (λ x.
       up.asked x _ (λ o. either_any (is_enum_object P o) (go x) _ (on x) (up.halted _)))
 
   replaced_any : (v : Value) (f : Frame) → Is (replaced v f)
@@ -346,25 +364,74 @@ module _ (Is : Row → Type 0) (HasRoom : Frame → Type 0) (up : GoesUp Is HasR
   member_any P changes members.EnumName count v f room = part_any P 0 v f
   member_any P changes members.EnumOrdinal count v f room = part_any P 1 v f
   member_any P changes members.CloneArray count v f room =
-      object_any v _ (λ x. up.asked x (clone_if_array x f) (cloned_any x f room))
+      object_any P v _ (λ x. up.asked x (clone_if_array x f) (cloned_any x f room))
   member_any P changes (members.Print what) count v f room = up.halted _
   member_any P changes (members.PrintLine what) count v f room = up.halted _
   member_any P changes members.EndLine count v f room = up.halted _
 
+  -- ---- native methods of a library
+
+  with_class_any : (P : Tables) (v : Value) (go : ClassId → Row) → ((class : ClassId) → Is (go class))
+      → Is (with_class P v go)
+  with_class_any P v go on =
+      either_any (is_null v) (raises P builtins.NullPointerException) (ask_class_of v (λ o. needing o go))
+      (raised_any P builtins.NullPointerException) (class_any v (λ o. needing o go) (λ o. needed_any o go on))
+
+  unit_any : (P : Tables) (f : Frame) (o : Option ℕ) → Is (unit_or_raise P f o)
+  unit_any P f None = raised_any P builtins.IndexOutOfBoundsException
+  unit_any P f (Some unit) = pushed_any (char_of unit) (with_operands f (rest (rest f.operands)))
+
+  pub native_any : (P : Tables) (native : Native) (f : Frame) → Is (native_row P native f)
+  native_any P natives.ConstantLength f =
+      needed_any (top_as Reference f.operands) _ (λ v.
+      needed_any (units_at P v) _ (λ units.
+      pushed_any (values.Int (int_length (length units))) (with_operands f (rest f.operands))))
+  native_any P natives.ConstantAt f =
+      needed_any (top_int f.operands) _ (λ index.
+      needed_any (top_as Reference (rest f.operands)) _ (λ v.
+      needed_any (units_at P v) _ (λ units. unit_any P f (unit_at units index))))
+  native_any P natives.ClassName f =
+      needing_any Is up.halted (top_as Reference f.operands) _ (λ v is.
+      with_class_any P v _ (λ class.
+      up.made_array chars (map char_of (class_units P class)) f
+      (up.room f 0 v (reference_top f.operands v is))))
+  native_any P natives.ClassNumber f =
+      needed_any (top_as Reference f.operands) _ (λ v.
+      with_class_any P v _ (λ class.
+      pushed_any (values.Int (class_number P.family class)) (with_operands f (rest f.operands))))
+  native_any P natives.Raise f = throw_any P f
+
+  -- ---- strings that a library makes
+
+  chars_any : (next : Option (List ℕ) → Row) → ((o : Option (List ℕ)) → Is (next o)) → (o : Option Value)
+      → Is (ask_chars_of o next)
+  chars_any next on None = on None
+  chars_any next on (Some v) =
+      named_any (name_of v) (next None) (λ y. ask_chars y next) (on None) (λ y.
+      up.asked y _ (λ o. either_any (is_chars o) _ (next None) (up.looked y _ _ (λ vs. on _)) (on None)))
+
+  pub made_string_any : (P : Tables) (x : Name) (next : Option (List ℕ) → Row)
+      → ((o : Option (List ℕ)) → Is (next o)) → Is (ask_made_string P x next)
+  made_string_any P x next on =
+      up.asked x _ (λ o.
+      either_any (is_string_object P o) _ (next None) (up.looked x _ _ (λ vs. chars_any next on (slot_in vs 0)))
+      (on None))
+
   -- ---- calls
 
   module _ (out : GoesOut Is) where
-    reaches_any : (c m count : ℕ) (f : Frame) (o : Option Implementation) → Is (reaches c m count f o)
-    reaches_any c m count f None = up.halted _
-    reaches_any c m count f (Some implementations.Abstract) = up.halted _
-    reaches_any c m count f (Some implementations.Unsupported) = up.halted _
-    reaches_any c m count f (Some (implementations.Code code)) =
+    reaches_any : (P : Tables) (c m count : ℕ) (f : Frame) (o : Option Implementation) → Is (reaches P c m count f o)
+    reaches_any P c m count f None = up.halted _
+    reaches_any P c m count f (Some implementations.Abstract) = up.halted _
+    reaches_any P c m count f (Some implementations.Unsupported) = up.halted _
+    reaches_any P c m count f (Some (implementations.Native native)) = native_any P native f
+    reaches_any P c m count f (Some (implementations.Code code)) =
         needed_any (passed (replicate code.max_locals None) 0 (taken count f.operands)) _ (λ locals. out.moved _)
 
     reached_any : (P : Tables) (c m count : ℕ) (f : Frame) → Is (reached P c m count f)
     reached_any P c m count f =
         either_any (is_method m (initializer_in P c)) _ _ (up.halted _)
-        (reaches_any c m count f (implementation_at P c m))
+        (reaches_any P c m count f (implementation_at P c m))
 
     pub static_any : (P : Tables) (k : StaticCall) (f : Frame) → Is (enter_static P k f)
     static_any P k f =
@@ -391,7 +458,7 @@ module _ (Is : Row → Type 0) (HasRoom : Frame → Type 0) (up : GoesUp Is HasR
         → Is (called_on P k count f v)
     on_any P changes k count f room v =
         either_any (is_out v && not k.names_stream) _ _ (up.halted _)
-        (unless_null_any Is up.halted raised_any (runs_chosen P k.choice count f v) v
+        (unless_null_any Is up.halted P (raised_any P) (runs_chosen P k.choice count f v) v
         (ran_any P changes k.choice count f room v))
 
     -- a receiver stands somewhere among the operands
@@ -420,9 +487,15 @@ module _ (Is : Row → Type 0) (HasRoom : Frame → Type 0) (up : GoesUp Is HasR
         → Is (print_value P what line k f)
     print_any P changes what line k f =
         needing_any Is up.halted (top f.operands) _ (λ v is.
-        needed_any (printed_text P what v) _ (λ text.
-        needed_any (top_as Reference (rest f.operands)) _ (λ w.
-        print_on_any P changes (ended line text) 2 k f (up.room f 0 v is) w)))
+        named_any (object_printed P what v) (print_plain P what v line k f) (λ x. print_made P x line k f)
+        (needed_any (printed_text P what v) _ (λ text. on_receiver (ended line text) v is))
+        (λ x. made_string_any P x _ (λ o. needed_any o _ (λ units. on_receiver (ended line (printed_units units)) v is))))
+      where
+        on_receiver : (text : List ℕ) (v : Value) → top f.operands ≡ Some v
+            → Is (needing (top_as Reference (rest f.operands)) (print_on P text 2 k f))
+        on_receiver text v is =
+            needed_any (top_as Reference (rest f.operands)) _ (λ w.
+            print_on_any P changes text 2 k f (up.room f 0 v is) w)
 
     pub line_any : (P : Tables) → OfChanges Is P → (k : InstanceCall) (f : Frame) → Is (end_line P k f)
     line_any P changes k f =

@@ -39,7 +39,7 @@ use Rattle.machine.specs.RowParts.{halts, needing, goes_on, push, raises}
 use Rattle.machine.specs.StoredKinds.{top_stored}
 use Rattle.machine.proofs.StoredKindsLemmas.{stored_kept}
 use Rattle.machine.specs.Linked.{program_of}
-use Rattle.machine.proofs.ObjectLawLemmas.{slot_has, on_object_suits, ask_class_suits, push_on_suits}
+use Rattle.machine.proofs.ObjectLawLemmas.{raised as raised_suits, slot_has, on_object_suits, ask_class_suits, push_on_suits}
 use Rattle.machine.proofs.TableLemmas.{needing_any, needing_such}
 
 filled_has : (Q : Value → Type 0) (n : ℕ) (v : Value) → Q v → AllByRecursion Q (replicate n v)
@@ -57,11 +57,11 @@ module _ (P : Tables) {N : Name → Type 0} {Q : Value → Type 0} (kept : IsKep
   halted : (kind : FaultKind) → Suits (halts kind)
   halted kind = (tt, tt)
 
-  raised : (class : BuiltIn) → Suits (raises class)
-  raised class = (tt, λ x h. (h, tt))
+  raised : (class : BuiltIn) → Suits (raises P class)
+  raised class = raised_suits P kept own class
 
   trapped_suits : {A : Type 0} (r : Result A Trap) (go : A → Row) → ((a : A) → Suits (go a))
-      → Suits (unless_trapped r go)
+      → Suits (unless_trapped P r go)
   trapped_suits (Ok a) go on = on a
   trapped_suits (Err traps.Fault) go on = halted Fault
   trapped_suits (Err (traps.Raise class)) go on = raised class
@@ -70,7 +70,7 @@ module _ (P : Tables) {N : Name → Type 0} {Q : Value → Type 0} (kept : IsKep
 
   element_suits : (kind : ElementKind) (v : Value) (index : ℤ) (go : Name → ArrayType → ℕ → Row) → Q v
       → ((x : Name) (a : ArrayType) (slot : ℕ) → N x → Suits (go x a slot))
-      → Suits (at_element kind v index go)
+      → Suits (at_element P kind v index go)
   element_suits kind v index go hv on =
       on_object_suits P kept own v _ hv (λ x hx. (
         hx,
@@ -80,19 +80,19 @@ module _ (P : Tables) {N : Name → Type 0} {Q : Value → Type 0} (kept : IsKep
         )),
       ))
 
-  held_suits : (b : Bool) (row : Row) → Suits row → Suits (if_held b row)
+  held_suits : (b : Bool) (row : Row) → Suits row → Suits (if_held P b row)
   held_suits true row on = on
   held_suits false row on = raised ArrayStoreException
 
   check_suits : (a : ArrayType) (v : Value) (row : Row) → Q v → Suits row → Suits (check_store P a v row)
   check_suits a v row hv on = by (is_checked v) where
     asked : Row
-    asked = ask_class_of v (λ o. needing o (λ class. if_held (can_hold P a class) row))
+    asked = ask_class_of v (λ o. needing o (λ class. if_held P (can_hold P a class) row))
 
     by : (b : Bool) → Suits (if b then asked else row)
     by true =
-        ask_class_suits P kept own v (λ o. needing o (λ class. if_held (can_hold P a class) row)) hv (λ o.
-        needing_any Suits halted o (λ class. if_held (can_hold P a class) row)
+        ask_class_suits P kept own v (λ o. needing o (λ class. if_held P (can_hold P a class) row)) hv (λ o.
+        needing_any Suits halted o (λ class. if_held P (can_hold P a class) row)
         (λ class is. held_suits (can_hold P a class) row on))
     by false = on
 
@@ -118,7 +118,7 @@ module _ (P : Tables) {N : Name → Type 0} {Q : Value → Type 0} (kept : IsKep
     reference_has : (s : OperandStack) → AllByRecursion Q s.values → IfSome (top_as Reference s) Q
     reference_has s hs = as_kind_has Q Reference (top s) (top_has Q s hs)
 
-    make_suits : (a : ArrayType) (v : Value) → Q v → Suits (make_array a v f)
+    make_suits : (a : ArrayType) (v : Value) → Q v → Suits (make_array P a v f)
     make_suits a v hv =
         needing_any Suits halted (top_int f.operands) _ (λ count is.
         trapped_suits (size_of count) _ (λ size. (
@@ -126,7 +126,7 @@ module _ (P : Tables) {N : Name → Type 0} {Q : Value → Type 0} (kept : IsKep
           λ x hx. push_suits (rest f.operands) (value_of x) one_less (kept.reference x hx),
         )))
 
-    length_suits : Suits (array_length f)
+    length_suits : Suits (array_length P f)
     length_suits =
         needing_such Suits halted Q (top_as Reference f.operands) _ (reference_has f.operands h.0)
         (λ v hv. on_object_suits P kept own v _ hv (λ x hx. (
@@ -138,7 +138,7 @@ module _ (P : Tables) {N : Name → Type 0} {Q : Value → Type 0} (kept : IsKep
           )),
         )))
 
-    load_suits : (kind : ElementKind) → Suits (load_element kind f)
+    load_suits : (kind : ElementKind) → Suits (load_element P kind f)
     load_suits kind =
         needing_any Suits halted (top_int f.operands) _ (λ index is.
         needing_such Suits halted Q (top_as Reference (rest f.operands)) _

@@ -6,6 +6,7 @@ use Rattle.vm_state.specs.declared.value.Value.{Value}
 use Rattle.vm_state.specs.declared.frame.Frame.{Frame}
 use Rattle.vm_state.specs.Operands.{top_int}
 use Rattle.semantics.specs.Rows.{Row}
+use Rattle.program.specs.Tables.{Tables}
 use Rattle.frame_instructions.specs.declared.trap.Trap.{Trap}
 use Rattle.frame_instructions.specs.declared.trap.Trap.TheVariants as traps
 use Rattle.machine.specs.declared.abrupt.Abrupt.{Abrupt}
@@ -19,24 +20,25 @@ use Rattle.machine.specs.steps.ArrayAccesses.{EndsSo}
 use Rattle.machine.proofs.AccessesLemmas.{gives_at}
 
 -- an instruction that a trap ended
-pub ended_by_trap : {A : Type 0} (stopped : Stop → A) (old new : Row → A) (row : Row) (f : Frame) (trap : Trap)
-    (abrupt : Abrupt) (r : Result Conclusion Stop) → abrupt ≡ Trapped trap → EndsSo stopped old row abrupt
-    → Gives stopped old new (local_row (Err trap)) f r → Gives stopped old new row f r
-ended_by_trap stopped old new row f trap abrupt r is ends gives =
-    gives_at stopped old new (local_row (Err trap)) row f r (subst (EndsSo stopped old row) is ends) gives
+pub ended_by_trap : {A : Type 0} (P : Tables) (stopped : Stop → A) (old new : Row → A) (row : Row) (f : Frame) (trap : Trap)
+    (abrupt : Abrupt) (r : Result Conclusion Stop) → abrupt ≡ Trapped trap → EndsSo P stopped old row abrupt
+    → Gives stopped old new (local_row P (Err trap)) f r → Gives stopped old new row f r
+ended_by_trap P stopped old new row f trap abrupt r is ends gives =
+    gives_at stopped old new (local_row P (Err trap)) row f r (subst (EndsSo P stopped old row) is ends) gives
 
 -- a row that leads to what one leads to that was ended
-pub ends_at : {A : Type 0} (stopped : Stop → A) (run : Row → A) (row other : Row) (abrupt : Abrupt)
-    → run row ≡ run other → EndsSo stopped run other abrupt → EndsSo stopped run row abrupt
-ends_at stopped run row other (Stopped stop) same ends = ap (unless_refused stop) same ∙ ends
-ends_at stopped run row other (Trapped trap) same ends = same ∙ ends
+pub ends_at : {A : Type 0} (P : Tables) (stopped : Stop → A) (run : Row → A) (row other : Row) (abrupt : Abrupt)
+    → run row ≡ run other → EndsSo P stopped run other abrupt → EndsSo P stopped run row abrupt
+ends_at P stopped run row other (Stopped stop) same ends = ap (unless_refused stop) same ∙ ends
+ends_at P stopped run row other (Trapped trap) same ends = same ∙ ends
 
 -- a trap that there is in the place of a value
-pub trapped_row : {A : Type 0} (trap : Trap) (go : A → Row) → unless_trapped (Err trap) go ≡ local_row (Err trap)
-trapped_row traps.Fault go = refl
-trapped_row (traps.Raise class) go = refl
+pub trapped_row : {A : Type 0} (P : Tables) (trap : Trap) (go : A → Row)
+    → unless_trapped P (Err trap) go ≡ local_row P (Err trap)
+trapped_row P traps.Fault go = refl
+trapped_row P (traps.Raise class) go = refl
 
 -- a new array of a size that there is not
-pub not_made : (a : ArrayType) (zero : Value) (f : Frame) (count : ℤ) (trap : Trap) → top_int f.operands ≡ Some count
-    → size_of count ≡ Err trap → make_array a zero f ≡ local_row (Err trap)
-not_made a zero f count trap on_top is = rw (on_top, is) (trapped_row trap _)
+pub not_made : (P : Tables) (a : ArrayType) (zero : Value) (f : Frame) (count : ℤ) (trap : Trap) → top_int f.operands ≡ Some count
+    → size_of count ≡ Err trap → make_array P a zero f ≡ local_row P (Err trap)
+not_made P a zero f count trap on_top is = rw (on_top, is) (trapped_row P trap _)

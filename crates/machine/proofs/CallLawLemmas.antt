@@ -2,10 +2,16 @@
 -- no frame of a class initialization method.
 use Rattle.std.proofs.Common.{ℕ, zero, suc, ◌+◌, Bool, true, false, cond, List, [], ◌∷◌, Option, Some, None, ◌≡◌, refl}
 use Rattle.std.proofs.Common.{replicate, length, not, ◌&&◌}
+use Rattle.std.specs.Prelude.{is_some}
 use Rattle.std.specs.List.{AllByRecursion}
 use Rattle.std.specs.Option.{IfSome}
 use Rattle.built_in.specs.declared.class_id.BuiltIn.{BuiltIn}
+use Rattle.built_in.specs.declared.class_id.BuiltIn.TheVariants.{String as StringClass}
 use Rattle.built_in.specs.declared.class_id.ClassId.{ClassId}
+use Rattle.built_in.specs.declared.method.Printed.{Printed}
+use Rattle.built_in.specs.declared.method.Printed.TheVariants as printed
+use Rattle.classfile.specs.Printing.{printed_units}
+use Rattle.loading.specs.Families.{substitute_in}
 use Rattle.hierarchy.specs.declared.member.Method.{Method}
 use Rattle.hierarchy.specs.declared.member.Method.TheVariants as methods
 use Rattle.hierarchy.specs.Selection.{selected}
@@ -16,6 +22,7 @@ use Rattle.vm_state.specs.declared.value.Name.{Name}
 use Rattle.vm_state.specs.declared.frame.Frame.{Frame}
 use Rattle.vm_state.specs.Operands.{OperandStack, top, rest, dropped}
 use Rattle.vm_state.specs.Arguments.{taken, passed}
+use Rattle.vm_state.specs.Values.{name_of}
 use Rattle.semantics.specs.Rows.{Row, Print as PrintText}
 use Rattle.semantics.specs.Lawful.{HoldsOfFrame, FitsBy}
 use Rattle.semantics.proofs.KeptLemmas.{IsKept}
@@ -37,11 +44,12 @@ use Rattle.machine.specs.RowParts.{halts, needing, raises, drops}
 use Rattle.machine.specs.Calls.{parameters_at, has_arguments, receiver_under, reaches, reached, enter_static}
 use Rattle.machine.specs.Calls.{runs, runs_chosen, is_out, called_on}
 use Rattle.machine.proofs.MemberLawLemmas.{member_suits}
-use Rattle.machine.specs.Printing.{printed_text, ended, print_on}
+use Rattle.machine.specs.Printing.{printed_text, object_printed, ended, print_on, print_made, print_plain, print_value}
 use Rattle.machine.specs.Table.{call_row}
 use Rattle.machine.specs.Linked.{program_of}
 use Rattle.machine.proofs.CallsLemmas.{dropped_has, taken_has, passed_has}
-use Rattle.machine.proofs.ObjectLawLemmas.{ask_class_suits}
+use Rattle.machine.proofs.NativeLawLemmas.{made_string_suits, native_suits}
+use Rattle.machine.proofs.ObjectLawLemmas.{raised as raised_suits, on_name_suits, ask_class_suits}
 use Rattle.machine.proofs.TableLemmas.{needing_any, needing_such, if_usable_any, unless_null_any, chosen_any}
 
 -- local variables that hold nothing yet
@@ -56,8 +64,8 @@ module _ (P : Tables) {N : Name → Type 0} {Q : Value → Type 0} (kept : IsKep
   halted : (kind : FaultKind) → Suits (halts kind)
   halted kind = (tt, tt)
 
-  raised : (class : BuiltIn) → Suits (raises class)
-  raised class = (tt, λ x h. (h, tt))
+  raised : (class : BuiltIn) → Suits (raises P class)
+  raised class = raised_suits P kept own class
 
   either : (b : Bool) (r q : Row) → Suits r → Suits q → Suits (cond b r q)
   either true r q one other = one
@@ -69,10 +77,11 @@ module _ (P : Tables) {N : Name → Type 0} {Q : Value → Type 0} (kept : IsKep
 
     -- a method that is no class initialization method, with so many operands on top as its arguments
     reaches_suits : (c m count : ℕ) → is_method m (initializer_in P c) ≡ false → (o : Option Implementation)
-        → Suits (reaches c m count f o)
+        → Suits (reaches P c m count f o)
     reaches_suits c m count apart None = halted Missing
     reaches_suits c m count apart (Some implementations.Abstract) = halted Missing
     reaches_suits c m count apart (Some implementations.Unsupported) = halted Unsupported
+    reaches_suits c m count apart (Some (implementations.Native native)) = native_suits P kept own f h native
     reaches_suits c m count apart (Some (implementations.Code code)) =
         needing_such Suits halted (HoldsOfLocals Q)
         (passed (replicate code.max_locals None) 0 (taken count f.operands)) _
@@ -87,7 +96,7 @@ module _ (P : Tables) {N : Name → Type 0} {Q : Value → Type 0} (kept : IsKep
     reached_suits c m count = by (is_method m (initializer_in P c)) refl
       where
         entered : Row
-        entered = reaches c m count f (implementation_at P c m)
+        entered = reaches P c m count f (implementation_at P c m)
 
         by : (b : Bool) → is_method m (initializer_in P c) ≡ b → Suits (cond b (halts Fault) entered)
         by true is = halted Fault
@@ -116,7 +125,7 @@ module _ (P : Tables) {N : Name → Type 0} {Q : Value → Type 0} (kept : IsKep
     called_suits : (k : InstanceCall) (count : ℕ) (v : Value) → Q v → Suits (called_on P k count f v)
     called_suits k count v hv =
         either (is_out v && not k.names_stream) (halts Fault) _ (halted Fault)
-        (unless_null_any Suits halted raised (runs_chosen P k.choice count f v) v (chosen_suits k.choice count v hv))
+        (unless_null_any Suits halted P raised (runs_chosen P k.choice count f v) v (chosen_suits k.choice count v hv))
 
     print_suits : (text : List ℕ) (count : ℕ) (k : InstanceCall) (v : Value) → Q v
         → Suits (print_on P text count k f v)
@@ -138,17 +147,36 @@ module _ (P : Tables) {N : Name → Type 0} {Q : Value → Type 0} (kept : IsKep
             (dropped_has Q (length kinds) f.operands h.0)
         by false = tt
 
+    on_receiver_suits : (text : List ℕ) (k : InstanceCall)
+        → Suits (needing (top_as Reference (rest f.operands)) (print_on P text 2 k f))
+    on_receiver_suits text k =
+        needing_such Suits halted Q (top_as Reference (rest f.operands)) _
+        (reference_has (rest f.operands) (rest_has Q f.operands h.0)) (print_suits text 2 k)
+
+    printed_by : (b : Bool) (v : Value) → Q v → (x : Name) → cond b (name_of v) None ≡ Some x → N x
+    printed_by true v hv x is = kept.name v hv x is
+    printed_by false v hv x is = cc
+
+    printed_has : (what : Printed) (v : Value) → Q v → (x : Name) → object_printed P what v ≡ Some x → N x
+    printed_has printed.String v hv x is = printed_by (is_some (substitute_in P.family StringClass)) v hv x is
+    printed_has other v hv x is = cc
+
+    value_suits : (what : Printed) (line : Bool) (k : InstanceCall) → Suits (print_value P what line k f)
+    value_suits what line k =
+        needing_such Suits halted Q (top f.operands) _ (top_has Q f.operands h.0) (λ v hv.
+        on_name_suits P kept own (object_printed P what v) (print_plain P what v line k f)
+        (λ x. print_made P x line k f) (printed_has what v hv)
+        (needing_any Suits halted (printed_text P what v) _ (λ text is. on_receiver_suits (ended line text) k))
+        (λ x hx. made_string_suits P kept own x hx _ (λ o.
+        needing_any Suits halted o _ (λ units is. on_receiver_suits (ended line (printed_units units)) k))))
+
     pub call_suits : (o : CallOperation) → Suits (call_row P o f)
-    call_suits (Static k) = λ b. if_usable_any Suits halted raised _ b (static_suits k)
+    call_suits (Static k) = λ b. if_usable_any Suits halted P raised _ b (static_suits k)
     call_suits (Instance k) =
         needing_any Suits halted (parameters_at P k.caller k.descriptor) _ (λ kinds is.
         needing_such Suits halted Q (receiver_under kinds f.operands) _ (receiver_has kinds)
         (called_suits k (length kinds + 1)))
-    call_suits (Print what line k) =
-        needing_any Suits halted (top f.operands) _ (λ v on_top.
-        needing_any Suits halted (printed_text P what v) _ (λ text is.
-        needing_such Suits halted Q (top_as Reference (rest f.operands)) _
-        (reference_has (rest f.operands) (rest_has Q f.operands h.0)) (print_suits (ended line text) 2 k)))
+    call_suits (Print what line k) = value_suits what line k
     call_suits (EndLine k) =
         needing_such Suits halted Q (top_as Reference f.operands) _ (reference_has f.operands h.0)
         (print_suits (10 ∷ []) 1 k)

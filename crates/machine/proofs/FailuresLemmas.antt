@@ -17,12 +17,12 @@ module _ (P : Tables) (t : ℕ) (maker : Maker) (sh : SharedState) where
   -- by an exception that is no Error
   pub wrapped : (x : Name) (class : ClassId) → class_at (pool_of sh x.maker) x.number ≡ Some class
       → is_below P.family class (BuiltIn Error) ≡ false
-      → run_row t maker sh (failing P x) ≡ run_row t maker sh (raises ExceptionInInitializerError)
+      → run_row t maker sh (failing P x) ≡ run_row t maker sh (raises P ExceptionInInitializerError)
   wrapped x class held apart =
       ap (λ (o : Option ClassId). run_row t maker sh (needing o (fails_by P x))) held
-      ∙ ap (λ (b : Bool). run_row t maker sh (cond b (Ends (Raise x class)) (raises ExceptionInInitializerError))) apart
+      ∙ ap (λ (b : Bool). run_row t maker sh (cond b (Ends (Raise x class)) (raises P ExceptionInInitializerError))) apart
 
   -- by a parent whose initialization failed
   pub by_parent : (cause : Option Name) (r : Result) → cause ≡ None
-      → run_row t maker sh (raises NoClassDefFoundError) ≡ r → run_row t maker sh (failure P cause) ≡ r
+      → run_row t maker sh (raises P NoClassDefFoundError) ≡ r → run_row t maker sh (failure P cause) ≡ r
   by_parent cause r is led = rw is led

@@ -13,7 +13,7 @@ use Rattle.machine.specs.Calls.{parameters_at, receiver_under, runs_chosen, is_o
 use Rattle.machine.specs.Printing.{print_on}
 
 module _ (P : Tables) (k : InstanceCall) (f : Frame) where
-  pub null_called : (count : ℕ) (v : Value) → is_null v ≡ true → called_on P k count f v ≡ raises NullPointerException
+  pub null_called : (count : ℕ) (v : Value) → is_null v ≡ true → called_on P k count f v ≡ raises P NullPointerException
   null_called count values.Null is = refl
   null_called count (values.Int n) is = cc
   null_called count (values.Long n) is = cc

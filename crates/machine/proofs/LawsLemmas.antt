@@ -1,6 +1,7 @@
 -- The table of instructions is lawful.
 use Rattle.std.proofs.Common.{◌≡◌, ℕ, Bool, true, false, cond, Option, Some, None, sym, ap, subst, ◌∙◌}
 use Rattle.built_in.specs.declared.class_id.BuiltIn.TheVariants.{Error, ExceptionInInitializerError}
+use Rattle.built_in.specs.declared.class_id.BuiltIn.TheVariants.{NoClassDefFoundError}
 use Rattle.built_in.specs.declared.class_id.ClassId.{ClassId}
 use Rattle.built_in.specs.declared.class_id.ClassId.TheVariants.{BuiltIn}
 use Rattle.vm_state.specs.declared.frame.Frame.{Frame}
@@ -20,6 +21,7 @@ use Rattle.machine.proofs.LawsSlotLemmas.{slots_past}
 use Rattle.machine.proofs.NamedTableLemmas.{failing_keeps, orphaned_keeps, row_keeps}
 use Rattle.machine.proofs.LinkedLemmas.{found_class_has, initializer_frame_is}
 use Rattle.machine.proofs.CallLawLemmas.{blank_has}
+use Rattle.machine.proofs.ObjectLawLemmas.{raised}
 use Rattle.machine.proofs.TableLawLemmas.{row_suits}
 
 -- the frame of a class initialization method holds nothing,
@@ -42,15 +44,15 @@ failing_suits : (P : Tables) (known : Names) (own : ℕ → Bool) (x : Name) →
     → Fits (program_of P) known own (needing o (fails_by P x))
 failing_suits P known own x h None = (tt, tt)
 failing_suits P known own x h (Some class) = by (is_below P.family class (BuiltIn Error)) where
-  by : (b : Bool) → Fits (program_of P) known own (cond b (Ends (Raise x class)) (raises ExceptionInInitializerError))
+  by : (b : Bool) → Fits (program_of P) known own (cond b (Ends (Raise x class)) (raises P ExceptionInInitializerError))
   by true = (h, tt)
-  by false = (tt, λ y known_y. (known_y, tt))
+  by false = raised P (names_kept known) own ExceptionInInitializerError
 
 -- and no class or monitor is needed for it
 failing_plain : (P : Tables) (x : Name) (o : Option ClassId) → IsPlain (needing o (fails_by P x))
 failing_plain P x None = tt
 failing_plain P x (Some class) = by (is_below P.family class (BuiltIn Error)) where
-  by : (b : Bool) → IsPlain (cond b (Ends (Raise x class)) (raises ExceptionInInitializerError))
+  by : (b : Bool) → IsPlain (cond b (Ends (Raise x class)) (raises P ExceptionInInitializerError))
   by true = tt
   by false = λ y. tt
 
@@ -58,7 +60,7 @@ lawful_over : (P : Tables) → AreSound P → IsLawful (program_of P)
 lawful_over P sound = record {
   row = λ known. row_suits sound (names_kept known) (λ d m place s is. tt);
   failing = λ known own c x h. (h, failing_suits P known own x h);
-  orphaned = λ known own c. (tt, λ x h. (h, tt));
+  orphaned = λ known own c. raised P (names_kept known) own NoClassDefFoundError;
   row_named = row_keeps P sound;
   failing_named = λ c x. failing_keeps P x;
   orphaned_named = λ c. orphaned_keeps P;

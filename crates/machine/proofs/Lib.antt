@@ -22,6 +22,7 @@ pub mod CallsLemmas
 pub mod InstanceCallsLemmas
 pub mod MembersLemmas
 pub mod MemberLawLemmas
+pub mod NativeLawLemmas
 pub mod CallLawLemmas
 pub mod TableLawLemmas
 pub mod LawsFinalLemmas

@@ -49,6 +49,7 @@ from_code : (P : Tables) (c m : ℕ) (f : Frame) (o : Option Implementation) →
 from_code P c m f None has h = let clash : None ≡ Some f = h in cc
 from_code P c m f (Some implementations.Abstract) has h = let clash : None ≡ Some f = h in cc
 from_code P c m f (Some implementations.Unsupported) has h = let clash : None ≡ Some f = h in cc
+from_code P c m f (Some (implementations.Native native)) has h = let clash : None ≡ Some f = h in cc
 from_code P c m f (Some (implementations.Code code)) has h =
     let same : called c m code (replicate code.max_locals None) ≡ f = cc in
     record { method = m; code = code; has = has; is = sym same }

@@ -23,15 +23,15 @@ use Rattle.machine.specs.Members.{new_enum, or_slot, enum_part, copy_of, clone_i
 use Rattle.machine.specs.Calls.{runs, runs_chosen}
 
 pub new_enum_nameless : (P : Tables) (v ordinal name : Value) (f : Frame) → top_as Int f.operands ≡ Some ordinal
-    → top_as Reference (rest f.operands) ≡ Some name → name_of v ≡ None → new_enum P v f ≡ without_object v
+    → top_as Reference (rest f.operands) ≡ Some name → name_of v ≡ None → new_enum P v f ≡ without_object P v
 new_enum_nameless P v ordinal name f on_top below none = rw (on_top, below, none) refl
 
 pub enum_part_nameless : (P : Tables) (slot : ℕ) (v : Value) (f : Frame) → name_of v ≡ None
-    → enum_part P slot v f ≡ without_object v
+    → enum_part P slot v f ≡ without_object P v
 enum_part_nameless P slot v f none = rw none refl
 
-pub clone_nameless : (v : Value) (f : Frame) → name_of v ≡ None → clone_array v f ≡ without_object v
-clone_nameless v f none = rw none refl
+pub clone_nameless : (P : Tables) (v : Value) (f : Frame) → name_of v ≡ None → clone_array P v f ≡ without_object P v
+clone_nameless P v f none = rw none refl
 
 module _ {A : Type 0} (run : Row → A) where
   pub enum_asked : (P : Tables) (slot : ℕ) (v : Value) (f : Frame) (x : Name) (o : Option ClassId) → name_of v ≡ Some x
@@ -45,10 +45,10 @@ module _ {A : Type 0} (run : Row → A) where
       in
       rw named led
 
-  pub clone_asked : (v : Value) (f : Frame) (x : Name) (o : Option ClassId) (a : ArrayType) → name_of v ≡ Some x
+  pub clone_asked : (P : Tables) (v : Value) (f : Frame) (x : Name) (o : Option ClassId) (a : ArrayType) → name_of v ≡ Some x
       → ((next : Option ClassId → Row) → run (AskClass x next) ≡ run (next o)) → o ≡ Some (Array a)
-      → run (clone_array v f) ≡ run (copy_of x a f)
-  clone_asked v f x o a named asked is =
+      → run (clone_array P v f) ≡ run (copy_of x a f)
+  clone_asked P v f x o a named asked is =
       let led : run (AskClass x (clone_if_array x f)) ≡ run (copy_of x a f) = rw is at (asked (clone_if_array x f)) in
       rw named led
 

@@ -6,6 +6,7 @@ use Rattle.vm_state.specs.declared.value.Name.{Name}
 use Rattle.vm_state.specs.declared.object.Monitor.TheVariants.{Free, Owned}
 use Rattle.vm_state.specs.Values.{name_of}
 use Rattle.semantics.specs.Rows.{Row, UseMonitor, left_once}
+use Rattle.program.specs.Tables.{Tables}
 use Rattle.frame_instructions.specs.declared.operand_kind.OperandKind.TheVariants.{Reference}
 use Rattle.frame_instructions.specs.OperandKinds.{top_as}
 use Rattle.machine.specs.Monitors.{without_monitor, enter_monitor, left, exit_monitor}
@@ -28,20 +29,20 @@ left_free t (suc (suc n)) h = absurd (omega (arith, h))
 
 -- ---- monitorenter and monitorexit of what is no object by a name
 
-pub entered_nameless : (f : Frame) (v : Value) → top_as Reference f.operands ≡ Some v → name_of v ≡ None
-    → enter_monitor f ≡ without_monitor v
-entered_nameless f v at none = rw (at, none) refl
+pub entered_nameless : (P : Tables) (f : Frame) (v : Value) → top_as Reference f.operands ≡ Some v → name_of v ≡ None
+    → enter_monitor P f ≡ without_monitor P v
+entered_nameless P f v at none = rw (at, none) refl
 
-pub exited_nameless : (f : Frame) (v : Value) → top_as Reference f.operands ≡ Some v → name_of v ≡ None
-    → exit_monitor f ≡ without_monitor v
-exited_nameless f v at none = rw (at, none) refl
+pub exited_nameless : (P : Tables) (f : Frame) (v : Value) → top_as Reference f.operands ≡ Some v → name_of v ≡ None
+    → exit_monitor P f ≡ without_monitor P v
+exited_nameless P f v at none = rw (at, none) refl
 
 -- monitorexit of a monitor that the thread does not own
-pub exit_refused : {A : Type 0} (run on : Row → A) (f : Frame) (v : Value) (x : Name) (done : Bool)
+pub exit_refused : {A : Type 0} (run on : Row → A) (P : Tables) (f : Frame) (v : Value) (x : Name) (done : Bool)
     → top_as Reference f.operands ≡ Some v → name_of v ≡ Some x
     → ((next : Bool → Row) → run (UseMonitor x false next) ≡ on (next done)) → done ≡ false
-    → run (exit_monitor f) ≡ on (raises IllegalMonitorStateException)
-exit_refused run on f v x done at named used refused =
-    let led : run (UseMonitor x false (left f)) ≡ on (raises IllegalMonitorStateException) =
-    rw refused at (used (left f)) in
+    → run (exit_monitor P f) ≡ on (raises P IllegalMonitorStateException)
+exit_refused run on P f v x done at named used refused =
+    let led : run (UseMonitor x false (left P f)) ≡ on (raises P IllegalMonitorStateException) =
+    rw refused at (used (left P f)) in
     rw (at, named) led

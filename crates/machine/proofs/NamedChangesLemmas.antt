@@ -30,6 +30,7 @@ use Rattle.semantics.proofs.TestsLemmas.{same_maker-true}
 use Rattle.semantics.proofs.NamedRowsLemmas.{Leaves, ended, changed, made, pool_apart, pool_same}
 use Rattle.hierarchy.specs.Subtypes.{has_slots_of}
 use Rattle.program.specs.Holders.{has_fields_of}
+use Rattle.program.specs.NewObjects.{blank_slots, raised_class}
 use Rattle.program.specs.Tables.{Tables}
 use Rattle.frame_instructions.specs.declared.operand_kind.OperandKind.TheVariants.{Int, Reference}
 use Rattle.frame_instructions.specs.declared.trap.Trap.{Trap}
@@ -37,7 +38,7 @@ use Rattle.frame_instructions.specs.declared.trap.Trap.TheVariants as traps
 use Rattle.frame_instructions.specs.Instructions.{is_null}
 use Rattle.frame_instructions.specs.OperandKinds.{top_as}
 use Rattle.machine.specs.declared.object_operation.InstanceField.{InstanceField}
-use Rattle.machine.specs.RowParts.{halts, needing, goes_on, drops, raises}
+use Rattle.machine.specs.RowParts.{halts, needing, goes_on, drops, raises, raises_new}
 use Rattle.machine.specs.StoredKinds.{top_stored}
 use Rattle.machine.specs.ObjectParts.{slot_in, size_in, set_named, on_name, class_of_nameless, ask_class_of}
 use Rattle.machine.specs.ObjectParts.{without_object, with_object}
@@ -116,12 +117,15 @@ module _ (P : Tables) where
     halted : (kind : FaultKind) → Keeps (halts kind)
     halted kind = ended (program_of P) t maker sh (Halt kind)
 
-    raised : (class : BuiltInClass) → Keeps (raises class)
-    raised class =
-        made (program_of P) (BuiltIn class) [] (λ x. Ends (Raise x (BuiltIn class)))
-        (λ x u by s. ended (program_of P) u by s (Raise x (BuiltIn class))) t maker sh
+    raised_new : (class : ClassId) → Keeps (raises_new P class)
+    raised_new class =
+        made (program_of P) class (blank_slots P.family class) (λ x. Ends (Raise x class))
+        (λ x u by s. ended (program_of P) u by s (Raise x class)) t maker sh
 
-    nameless : (v : Value) → Keeps (without_object v)
+    raised : (class : BuiltInClass) → Keeps (raises P class)
+    raised class = raised_new (raised_class P.family class)
+
+    nameless : (v : Value) → Keeps (without_object P v)
     nameless values.Null = raised builtins.NullPointerException
     nameless (values.Text s) = halted faults.Fault
     nameless values.Out = halted faults.Fault
@@ -135,14 +139,14 @@ module _ (P : Tables) where
     on_named None other go otherwise on = otherwise
     on_named (Some x) other go otherwise on = on x
 
-    with_any : (v : Value) (go : Name → Row) → ((x : Name) → Keeps (go x)) → Keeps (with_object v go)
-    with_any v go on = on_named (name_of v) (without_object v) go (nameless v) on
+    with_any : (v : Value) (go : Name → Row) → ((x : Name) → Keeps (go x)) → Keeps (with_object P v go)
+    with_any v go on = on_named (name_of v) (without_object P v) go (nameless v) on
 
     needed : {A : Type 0} (o : Option A) (go : A → Row) → ((a : A) → o ≡ Some a → Keeps (go a)) → Keeps (needing o go)
     needed o go on = needing_any Keeps halted o go on
 
     trapped : {A : Type 0} (r : Result A Trap) (go : A → Row) → ((a : A) → r ≡ Ok a → Keeps (go a))
-        → Keeps (unless_trapped r go)
+        → Keeps (unless_trapped P r go)
     trapped (Ok a) go on = on a refl
     trapped (Err traps.Fault) go on = halted faults.Fault
     trapped (Err (traps.Raise class)) go on = raised class
@@ -153,7 +157,7 @@ module _ (P : Tables) where
 
     -- ---- elements
 
-    held_keeps : (b : Bool) (row : Row) → Keeps row → Keeps (if_held b row)
+    held_keeps : (b : Bool) (row : Row) → Keeps row → Keeps (if_held P b row)
     held_keeps true row on = on
     held_keeps false row on = raised builtins.ArrayStoreException
 
@@ -161,7 +165,7 @@ module _ (P : Tables) where
     check_keeps a v row on = either (is_checked v) _ row (λ is. asks) on
       where
         checked : Option ClassId → Row
-        checked o = needing o (λ class. if_held (can_hold P a class) row)
+        checked o = needing o (λ class. if_held P (can_hold P a class) row)
 
         checks : (o : Option ClassId) → Keeps (checked o)
         checks o = needed o _ (λ class is. held_keeps (can_hold P a class) row on)

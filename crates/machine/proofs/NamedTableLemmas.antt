@@ -89,11 +89,11 @@ module _ (P : Tables) where
   needed : {A : Type 0} (o : Option A) (go : A → Row) → ((a : A) → Keeps (go a)) → Keeps (needing o go)
   needed o go on = needed_any Keeps HasRoom up o go on
 
-  usable : (r : Row) → Keeps r → (b : Bool) → Keeps (if_usable r b)
-  usable r on b = usable_any Keeps HasRoom up r on b
+  usable : (r : Row) → Keeps r → (b : Bool) → Keeps (if_usable P r b)
+  usable r on b = usable_any Keeps HasRoom up P r on b
 
-  class_used : (c : ℕ) (r : Row) → Keeps r → Keeps (UseClass c (if_usable r))
-  class_used c r on = uses (program_of P) c (if_usable r) (usable r on)
+  class_used : (c : ℕ) (r : Row) → Keeps r → Keeps (UseClass c (if_usable P r))
+  class_used c r on = uses (program_of P) c (if_usable P r) (usable r on)
 
   -- ---- failing
 
@@ -101,20 +101,20 @@ module _ (P : Tables) where
   fails x o = needed o _ (λ class. by class (is_below P.family class (BuiltIn builtins.Error)))
     where
       by : (class : ClassId) (b : Bool)
-          → Keeps (cond b (Ends (Raise x class)) (raises builtins.ExceptionInInitializerError))
+          → Keeps (cond b (Ends (Raise x class)) (raises P builtins.ExceptionInInitializerError))
       by class true = ends (Raise x class)
-      by class false = raised_any Keeps HasRoom up builtins.ExceptionInInitializerError
+      by class false = raised_any Keeps HasRoom up P builtins.ExceptionInInitializerError
 
   pub failing_keeps : (x : Name) → Keeps (failing P x)
   failing_keeps x t maker sh = fails x (class_at (pool_of sh x.maker) x.number) t maker sh
 
-  pub orphaned_keeps : Keeps orphaned
-  orphaned_keeps = raised_any Keeps HasRoom up builtins.NoClassDefFoundError
+  pub orphaned_keeps : Keeps (orphaned P)
+  orphaned_keeps = raised_any Keeps HasRoom up P builtins.NoClassDefFoundError
 
   -- ---- monitors
 
-  without_monitor_keeps : (v : Value) → Keeps (without_monitor v)
-  without_monitor_keeps values.Null = raised_any Keeps HasRoom up builtins.NullPointerException
+  without_monitor_keeps : (v : Value) → Keeps (without_monitor P v)
+  without_monitor_keeps values.Null = raised_any Keeps HasRoom up P builtins.NullPointerException
   without_monitor_keeps (values.Text s) = ends _
   without_monitor_keeps values.Out = ends _
   without_monitor_keeps (values.OfClass c k) = ends _
@@ -123,26 +123,26 @@ module _ (P : Tables) where
   without_monitor_keeps (values.Long n) = ends _
 
   monitor_keeps : (enter : Bool) (f : Frame) (next : Bool → Row) → ((b : Bool) → Keeps (next b))
-      → Keeps (use_monitor enter f next)
+      → Keeps (use_monitor P enter f next)
   monitor_keeps enter f next on =
       needed (top_as Reference f.operands) _ (λ v.
-      named_any Keeps HasRoom up (name_of v) (without_monitor v) (λ x. UseMonitor x enter next)
+      named_any Keeps HasRoom up (name_of v) (without_monitor P v) (λ x. UseMonitor x enter next)
       (without_monitor_keeps v) (λ x. locks (program_of P) x enter next on))
 
   entered_keeps : (f : Frame) (b : Bool) → Keeps (entered f b)
   entered_keeps f true = ends _
   entered_keeps f false = ends _
 
-  left_keeps : (f : Frame) (b : Bool) → Keeps (left f b)
+  left_keeps : (f : Frame) (b : Bool) → Keeps (left P f b)
   left_keeps f true = ends _
-  left_keeps f false = raised_any Keeps HasRoom up builtins.IllegalMonitorStateException
+  left_keeps f false = raised_any Keeps HasRoom up P builtins.IllegalMonitorStateException
 
   -- ---- the whole table
 
-  local_keeps : (r : Result Frame Trap) → Keeps (local_row r)
+  local_keeps : (r : Result Frame Trap) → Keeps (local_row P r)
   local_keeps (Ok g) = ends _
   local_keeps (Err traps.Fault) = ends _
-  local_keeps (Err (traps.Raise class)) = raised_any Keeps HasRoom up class
+  local_keeps (Err (traps.Raise class)) = raised_any Keeps HasRoom up P class
 
   return_keeps : (kind : ReturnKind) (f : Frame) → Keeps (return_row kind f)
   return_keeps returns.Nothing f = ends _
@@ -171,7 +171,7 @@ module _ (P : Tables) (sound : AreSound P) where
   object_keeps (objects.GetField field) f past = got_any (Keeps P) (HasRoom P) (up P) P field f
   object_keeps (objects.PutField field) f past = λ t maker sh. put_keeps P t maker sh field f (past field refl)
   object_keeps objects.EnterMonitor f past = monitor_keeps P true f (entered f) (entered_keeps P f)
-  object_keeps objects.ExitMonitor f past = monitor_keeps P false f (left f) (left_keeps P f)
+  object_keeps objects.ExitMonitor f past = monitor_keeps P false f (left P f) (left_keeps P f)
 
   call_keeps : (operation : CallOperation) (f : Frame) → Keeps P (call_row P operation f)
   call_keeps (calls.Static k) f =

@@ -15,7 +15,7 @@ use Rattle.built_in.specs.declared.class_id.BuiltIn.{BuiltIn as BuiltInClass}
 use Rattle.built_in.specs.declared.class_id.BuiltIn.TheVariants.{Throwable, ClassCastException, NullPointerException}
 use Rattle.built_in.specs.declared.class_id.BuiltIn.TheVariants.{IllegalMonitorStateException}
 use Rattle.built_in.specs.declared.class_id.ClassId.{ClassId}
-use Rattle.built_in.specs.declared.class_id.ClassId.TheVariants.{Given, BuiltIn}
+use Rattle.built_in.specs.declared.class_id.ClassId.TheVariants.{Given, BuiltIn, Array}
 use Rattle.vm_state.specs.declared.value.Value.TheVariants as values
 use Rattle.semantics.specs.Rows.{Row, Ends, Raise, AskClass, Make, Change, UseMonitor}
 use Rattle.semantics.specs.Lawful.{HoldsOfSlots, HoldsOfFrame, FitsBy}
@@ -24,6 +24,7 @@ use Rattle.semantics.proofs.KeptLemmas.{IsKept}
 use Rattle.hierarchy.specs.Subtypes.{is_below}
 use Rattle.program.specs.declared.runtime_constant.FieldKind.{FieldKind}
 use Rattle.program.specs.declared.runtime_constant.FieldKind.TheVariants as kinds
+use Rattle.program.specs.NewObjects.{blank_slots, raised_class}
 use Rattle.program.specs.Programs.{zero_of}
 use Rattle.program.specs.InstanceFields.{slots_of}
 use Rattle.program.specs.Tables.{Tables}
@@ -39,7 +40,7 @@ use Rattle.machine.specs.RowParts.{halts, needing, goes_on, push, raises}
 use Rattle.machine.specs.ObjectParts.{slot_in, look_into_slot, on_name, class_of_nameless, ask_class_of, without_object}
 use Rattle.machine.specs.ObjectParts.{with_object}
 use Rattle.machine.specs.Objects.{new_object, is_of, cast_row, int_of_boolean, throw_of}
-use Rattle.machine.specs.Objects.{is_holder, on_holder, get_field, put_field, object_row}
+use Rattle.machine.specs.Objects.{is_blank, is_holder, on_holder, get_field, put_field, object_row}
 use Rattle.machine.specs.Monitors.{without_monitor, use_monitor, entered, left}
 use Rattle.machine.specs.Linked.{program_of}
 use Rattle.machine.proofs.StoredKindsLemmas.{stored_kept}
@@ -73,8 +74,13 @@ module _ (P : Tables) {N : Name → Type 0} {Q : Value → Type 0} (kept : IsKep
   halted : (kind : FaultKind) → Suits (halts kind)
   halted kind = (tt, tt)
 
-  raised : (class : BuiltInClass) → Suits (raises class)
-  raised class = (tt, λ x h. (h, tt))
+  blank_have : (class : ClassId) → AllByRecursion Q (blank_slots P.family class)
+  blank_have (Given c) = zeros_have kept (slots_of P.family c)
+  blank_have (BuiltIn b) = tt
+  blank_have (Array a) = tt
+
+  pub raised : (class : BuiltInClass) → Suits (raises P class)
+  raised class = (blank_have (raised_class P.family class), λ x h. (h, tt))
 
   either : (b : Bool) (r q : Row) → Suits r → Suits q → Suits (cond b r q)
   either true r q one other = one
@@ -91,7 +97,7 @@ module _ (P : Tables) {N : Name → Type 0} {Q : Value → Type 0} (kept : IsKep
       on_name_suits (name_of v) (next (class_of_nameless v)) _ (kept.name v h) (on (class_of_nameless v))
       (λ x hx. (hx, on))
 
-  pub without_object_suits : (v : Value) → Suits (without_object v)
+  pub without_object_suits : (v : Value) → Suits (without_object P v)
   without_object_suits values.Null = raised NullPointerException
   without_object_suits (values.Text s) = halted Fault
   without_object_suits values.Out = halted Fault
@@ -101,9 +107,9 @@ module _ (P : Tables) {N : Name → Type 0} {Q : Value → Type 0} (kept : IsKep
   without_object_suits (values.Long n) = halted Fault
 
   pub on_object_suits : (v : Value) (go : Name → Row) → Q v
-      → ((x : Name) → N x → Suits (go x)) → Suits (with_object v go)
+      → ((x : Name) → N x → Suits (go x)) → Suits (with_object P v go)
   on_object_suits v go h on =
-      on_name_suits (name_of v) (without_object v) go (kept.name v h) (without_object_suits v) on
+      on_name_suits (name_of v) (without_object P v) go (kept.name v h) (without_object_suits v) on
 
   module _ (f : Frame) (h : HoldsOfFrame Q f) where
     -- it goes on with other operands,
@@ -136,7 +142,7 @@ module _ (P : Tables) {N : Name → Type 0} {Q : Value → Type 0} (kept : IsKep
     int_has true = kept.int (pos 1)
     int_has false = kept.int (pos 0)
 
-    throw_suits : (x : Name) → N x → (o : Option ClassId) → Suits (throw_of P x o)
+    pub throw_suits : (x : Name) → N x → (o : Option ClassId) → Suits (throw_of P x o)
     throw_suits x hx None = halted Fault
     throw_suits x hx (Some c) =
         either (is_below P.family c (BuiltIn Throwable)) (Ends (Raise x c)) _ (hx, tt) (halted Fault)
@@ -154,7 +160,9 @@ module _ (P : Tables) {N : Name → Type 0} {Q : Value → Type 0} (kept : IsKep
     get_suits field =
         needing_such Suits halted Q (top_as Reference f.operands) _ (reference_has f.operands h.0)
         (λ v hv.
-        either (nat_le (extra_places field.kind) f.operands.free) _ _ (holder_suits field v got hv got_suits)
+        either (nat_le (extra_places field.kind) f.operands.free) _ _
+        (either (is_blank P field v) _ _ (push_on_suits (rest f.operands) one_less _ (zero_has kept field.kind))
+        (holder_suits field v got hv got_suits))
         (halted Fault))
       where
         got : Name → Row
@@ -179,7 +187,7 @@ module _ (P : Tables) {N : Name → Type 0} {Q : Value → Type 0} (kept : IsKep
         put : Value → Name → Row
         put held x = Change x field.slot held (goes_on (advanced (with_operands f (rest (rest f.operands)))))
 
-    without_monitor_suits : (v : Value) → Suits (without_monitor v)
+    without_monitor_suits : (v : Value) → Suits (without_monitor P v)
     without_monitor_suits values.Null = raised NullPointerException
     without_monitor_suits (values.Text s) = halted Unsupported
     without_monitor_suits values.Out = halted Unsupported
@@ -189,11 +197,11 @@ module _ (P : Tables) {N : Name → Type 0} {Q : Value → Type 0} (kept : IsKep
     without_monitor_suits (values.Long n) = halted Fault
 
     monitor_suits : (enter : Bool) (next : Bool → Row) → ((b : Bool) → Suits (next b))
-        → Suits (use_monitor enter f next)
+        → Suits (use_monitor P enter f next)
     monitor_suits enter next on =
         needing_such Suits halted Q (top_as Reference f.operands) _ (reference_has f.operands h.0)
         (λ v hv.
-        on_name_suits (name_of v) (without_monitor v) (λ x. UseMonitor x enter next) (kept.name v hv)
+        on_name_suits (name_of v) (without_monitor P v) (λ x. UseMonitor x enter next) (kept.name v hv)
         (without_monitor_suits v)
         (λ x hx. (hx, on)))
 
@@ -201,21 +209,21 @@ module _ (P : Tables) {N : Name → Type 0} {Q : Value → Type 0} (kept : IsKep
     entered_suits true = on_suits (rest f.operands) one_less
     entered_suits false = halted Fault
 
-    left_suits : (b : Bool) → Suits (left f b)
+    left_suits : (b : Bool) → Suits (left P f b)
     left_suits true = on_suits (rest f.operands) one_less
     left_suits false = raised IllegalMonitorStateException
 
     pub object_suits : (o : ObjectOperation) → Suits (object_row P o f)
     object_suits (objects.NewGiven c) =
-        λ b. if_usable_any Suits halted raised _ b
+        λ b. if_usable_any Suits halted P raised _ b
         (new_suits (Given c) (map zero_of (slots_of P.family c)) (zeros_have kept (slots_of P.family c)))
     object_suits (objects.NewBuiltIn b) = new_suits (BuiltIn b) [] tt
     object_suits (objects.CheckCast class) =
         needing_such Suits halted Q (top_as Reference f.operands) _ (reference_has f.operands h.0)
         (λ v hv.
         either (is_null v) (goes_on (advanced f)) _ ((h.0, h.1), tt)
-        (ask_class_suits v (λ o. cast_row f (is_of P class o)) hv (λ o.
-        either (is_of P class o) (goes_on (advanced f)) (raises ClassCastException) ((h.0, h.1), tt)
+        (ask_class_suits v (λ o. cast_row P f (is_of P class o)) hv (λ o.
+        either (is_of P class o) (goes_on (advanced f)) (raises P ClassCastException) ((h.0, h.1), tt)
         (raised ClassCastException))))
     object_suits (objects.InstanceOf class) =
         needing_such Suits halted Q (top_as Reference f.operands) _ (reference_has f.operands h.0)
@@ -230,4 +238,4 @@ module _ (P : Tables) {N : Name → Type 0} {Q : Value → Type 0} (kept : IsKep
     object_suits (objects.GetField field) = get_suits field
     object_suits (objects.PutField field) = put_suits field
     object_suits objects.EnterMonitor = monitor_suits true (entered f) entered_suits
-    object_suits objects.ExitMonitor = monitor_suits false (left f) left_suits
+    object_suits objects.ExitMonitor = monitor_suits false (left P f) left_suits

@@ -37,7 +37,7 @@ use Rattle.machine.specs.Laws.{AreSound}
 use Rattle.machine.proofs.TableLemmas.{of_some, needing_such, if_usable_any, HoldsOfCall, called_any}
 use Rattle.machine.proofs.ArrayLawLemmas.{array_suits}
 use Rattle.machine.proofs.LinkedLemmas.{found_class_has, class_is_found}
-use Rattle.machine.proofs.ObjectLawLemmas.{object_suits}
+use Rattle.machine.proofs.ObjectLawLemmas.{raised as raised_suits, object_suits}
 use Rattle.machine.proofs.CallLawLemmas.{blank_has, call_suits}
 
 -- it holds of each string that an instruction names
@@ -52,10 +52,10 @@ module _ {P : Tables} (sound : AreSound P) {N : Name → Type 0} {Q : Value → 
   halted : (kind : FaultKind) → Suits (halts kind)
   halted kind = (tt, tt)
 
-  raised : (class : BuiltIn) → Suits (raises class)
-  raised class = (tt, λ x h. (h, tt))
+  raised : (class : BuiltIn) → Suits (raises P class)
+  raised class = raised_suits P kept own class
 
-  local_suits : (r : Result Frame Trap) → IfOk r (HoldsOfFrame Q) → Suits (local_row r)
+  local_suits : (r : Result Frame Trap) → IfOk r (HoldsOfFrame Q) → Suits (local_row P r)
   local_suits (Ok g) h = (h, tt)
   local_suits (Err traps.Fault) h = halted Fault
   local_suits (Err (traps.Raise class)) h = raised class
@@ -80,12 +80,12 @@ module _ {P : Tables} (sound : AreSound P) {N : Name → Type 0} {Q : Value → 
       instruction_suits (Local i) at = local_suits (local_after i f) (local_kept kept f h i)
       instruction_suits (PushText s) at = push_suits (values.Text s) (texts d m f.place s at)
       instruction_suits (GetStatic c k) at =
-          λ b. if_usable_any Suits halted raised _ b push_suits
+          λ b. if_usable_any Suits halted P raised _ b push_suits
       instruction_suits (PutStatic kind c k) at =
           let may : is_final (program_of P) c k ≡ true → own c ≡ true =
           λ final. let found = sound.finals kind d m f.place c k at final in
           ho c (ap (initialized_by P) runs ∙ class_is_found P d m c found.0 found.1) in
-          λ b. if_usable_any Suits halted raised _ b (
+          λ b. if_usable_any Suits halted P raised _ b (
           needing_such Suits halted Q (top_stored kind f.operands) _
           (stored_kept kept kind f.operands h.0)
           (λ v hv. (hv, may, on_suits (rest f.operands) one_less)))
@@ -117,7 +117,7 @@ module _ {P : Tables} (sound : AreSound P) {N : Name → Type 0} {Q : Value → 
     main_suits c (Some m) is = called_any Suits halted c m f (implementation_at P c m) (start_suits c m is)
 
     active_suits : (a : Activity) → f.activity ≡ a → Suits (active_row P a f)
-    active_suits (Start c) runs = λ b. if_usable_any Suits halted raised _ b (main_suits c (main_in P c) refl)
+    active_suits (Start c) runs = λ b. if_usable_any Suits halted P raised _ b (main_suits c (main_in P c) refl)
     active_suits (Method d m) runs = fetched_suits d m runs (operation_at P d m f.place) refl
 
   pub row_suits : (f : Frame) → HoldsOfFrame Q f → OwnsFrame (program_of P) own f → Suits (row P f)

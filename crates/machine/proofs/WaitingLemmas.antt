@@ -86,12 +86,13 @@ module _ (t : ℕ) (maker : Maker) where
 
   module _ (sh : SharedState) (P : Tables) (f : Frame) where
     class_waits : (c : ℕ) (r : Row) → IsPlain r
-        → waits (run_row t maker sh (UseClass c (if_usable r))) ≡ is_busy (usable t (sh.states c))
+        → waits (run_row t maker sh (UseClass c (if_usable P r))) ≡ is_busy (usable t (sh.states c))
     class_waits c r h =
-        on_class (usable t (sh.states c)) c (run_row t maker sh r) (run_row t maker sh (raises NoClassDefFoundError))
+        on_class (usable t (sh.states c)) c (run_row t maker sh r)
+        (run_row t maker sh (raises P NoClassDefFoundError))
         (plain_steps r sh h) refl
 
-    get_waits : (c k : ℕ) → waits (run_row t maker sh (get_static c k f)) ≡ is_busy (usable t (sh.states c))
+    get_waits : (c k : ℕ) → waits (run_row t maker sh (get_static P c k f)) ≡ is_busy (usable t (sh.states c))
     get_waits c k = by (usable t (sh.states c))
       where
         read : Result
@@ -99,7 +100,7 @@ module _ (t : ℕ) (maker : Maker) where
 
         by : (u : Usability)
             → waits (on_usable u (on_usable u read (Needs c) Waits (Moved (Halt Fault) sh)) (Needs c) Waits
-            (run_row t maker sh (raises NoClassDefFoundError)))
+            (run_row t maker sh (raises P NoClassDefFoundError)))
             ≡ is_busy u
         by Ready = plain_steps (push ((sh.regions c).fields k) f) sh (pushed_plain ((sh.regions c).fields k) f)
         by Fresh = refl
@@ -107,7 +108,7 @@ module _ (t : ℕ) (maker : Maker) where
         by Broken = refl
 
     put_waits : (kind : FieldKind) (c k : ℕ)
-        → waits (run_row t maker sh (put_static kind c k f)) ≡ is_busy (usable t (sh.states c))
+        → waits (run_row t maker sh (put_static P kind c k f)) ≡ is_busy (usable t (sh.states c))
     put_waits kind c k = by (usable t (sh.states c)) refl (top_stored kind f.operands)
       where
         written : Option Value → Row
@@ -115,7 +116,7 @@ module _ (t : ℕ) (maker : Maker) where
 
         by : (u : Usability) → usable t (sh.states c) ≡ u → (o : Option Value)
             → waits (on_usable u (run_row t maker sh (written o)) (Needs c) Waits
-            (run_row t maker sh (raises NoClassDefFoundError)))
+            (run_row t maker sh (raises P NoClassDefFoundError)))
             ≡ is_busy u
         by Ready is None = refl
         by Ready is (Some v) = rw is refl
@@ -145,18 +146,18 @@ module _ (t : ℕ) (maker : Maker) where
         by true = again (nat_lt (depth + 1) (2 ^ 64))
         by false = refl
 
-    leaving : (x : Name) (m : Monitor) → waits (on_lock (lock_monitor t false m) Waits (after x (left f))) ≡ false
+    leaving : (x : Name) (m : Monitor) → waits (on_lock (lock_monitor t false m) Waits (after x (left P f))) ≡ false
     leaving x Free = refl
     leaving x (Owned u depth) = by (t == u)
       where
         by : (b : Bool)
             → waits (on_lock (cond b (Answered true (left_once t depth)) (Answered false (Owned u depth))) Waits
-            (after x (left f)))
+            (after x (left P f)))
             ≡ false
         by true = refl
         by false = refl
 
-    nameless_steps : (v : Value) → waits (run_row t maker sh (without_monitor v)) ≡ false
+    nameless_steps : (v : Value) → waits (run_row t maker sh (without_monitor P v)) ≡ false
     nameless_steps values.Null = refl
     nameless_steps (values.Text s) = refl
     nameless_steps values.Out = refl
@@ -165,33 +166,33 @@ module _ (t : ℕ) (maker : Maker) where
     nameless_steps (values.Int n) = refl
     nameless_steps (values.Long n) = refl
 
-    enter_waits : waits (run_row t maker sh (enter_monitor f)) ≡ is_held (object_trigger objects.EnterMonitor f) t sh
+    enter_waits : waits (run_row t maker sh (enter_monitor P f)) ≡ is_held (object_trigger objects.EnterMonitor f) t sh
     enter_waits = by (top_as Reference f.operands)
       where
         named : (v : Value) (n : Option Name)
-            → waits (run_row t maker sh (on_name n (without_monitor v) (λ x. UseMonitor x true (entered f))))
+            → waits (run_row t maker sh (on_name n (without_monitor P v) (λ x. UseMonitor x true (entered f))))
             ≡ is_held (named_trigger n) t sh
         named v None = nameless_steps v
         named v (Some x) = entering x (monitor_of (object_of sh x))
 
         by : (o : Option Value)
             → waits (run_row t maker sh (needing o (λ v.
-            on_name (name_of v) (without_monitor v) (λ x. UseMonitor x true (entered f)))))
+            on_name (name_of v) (without_monitor P v) (λ x. UseMonitor x true (entered f)))))
             ≡ is_held (monitor_trigger o) t sh
         by None = refl
         by (Some v) = named v (name_of v)
 
-    exit_steps : waits (run_row t maker sh (exit_monitor f)) ≡ false
+    exit_steps : waits (run_row t maker sh (exit_monitor P f)) ≡ false
     exit_steps = by (top_as Reference f.operands)
       where
         named : (v : Value) (n : Option Name)
-            → waits (run_row t maker sh (on_name n (without_monitor v) (λ x. UseMonitor x false (left f)))) ≡ false
+            → waits (run_row t maker sh (on_name n (without_monitor P v) (λ x. UseMonitor x false (left P f)))) ≡ false
         named v None = nameless_steps v
         named v (Some x) = leaving x (monitor_of (object_of sh x))
 
         by : (o : Option Value)
             → waits (run_row t maker sh (needing o (λ v.
-            on_name (name_of v) (without_monitor v) (λ x. UseMonitor x false (left f)))))
+            on_name (name_of v) (without_monitor P v) (λ x. UseMonitor x false (left P f)))))
             ≡ false
         by None = refl
         by (Some v) = named v (name_of v)
@@ -218,7 +219,7 @@ module _ (t : ℕ) (maker : Maker) where
     call_waits (calls.Print what line k) = plain_steps (print_value P what line k f) sh (print_plain P what line k f)
     call_waits (calls.EndLine k) = plain_steps (end_line P k f) sh (line_plain P k f)
 
-    local_steps : (r : Either Frame Trap) → waits (run_row t maker sh (local_row r)) ≡ false
+    local_steps : (r : Either Frame Trap) → waits (run_row t maker sh (local_row P r)) ≡ false
     local_steps (Ok g) = refl
     local_steps (Err traps.Fault) = refl
     local_steps (Err (traps.Raise class)) = refl

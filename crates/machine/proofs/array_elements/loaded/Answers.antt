@@ -12,8 +12,8 @@ returns-in_err-element g c =
     let n = c.in_ok-index.index in
     let fits : to_z w32 (of_z w32 n) ≡ n = search rules in
     let same : c.from_residual-in_err-element.result ≡ Err c.in_err-element.field-0.0 = search rules in
-    λ p. rw same (λ go. rw ((rw operands at c.in_ok-index.ensures.ok), (rw operands at c.in_ok-array.ensures.ok))
-    (rw fits at (c.in_err-element.ensures p (value_of go))))
+    λ P p. rw same (λ go. rw ((rw operands at c.in_ok-index.ensures.ok), (rw operands at c.in_ok-array.ensures.ok))
+    (rw fits at (c.in_err-element.ensures P p (value_of go))))
 
 pub returns-in_err-value : goal.returns-in_err-value
 returns-in_err-value g c =
@@ -22,8 +22,8 @@ returns-in_err-value g c =
     let fits : to_z w32 (of_z w32 n) ≡ n = search rules in
     let stop = c.in_err-value.field-0.0 in
     let same : c.from_residual-in_err-value.result ≡ Err (Stopped stop) = search rules in
-    λ p. rw same (λ go. rw ((rw operands at c.in_ok-index.ensures.ok), (rw operands at c.in_ok-array.ensures.ok))
-    (ap (unless_refused stop) (rw fits at (c.in_ok-element.ensures p (value_of go)))
+    λ P p. rw same (λ go. rw ((rw operands at c.in_ok-index.ensures.ok), (rw operands at c.in_ok-array.ensures.ok))
+    (ap (unless_refused stop) (rw fits at (c.in_ok-element.ensures P p (value_of go)))
     ∙ c.in_err-value.ensures p (λ o. needing o go)))
 
 pub returns-in-Some : goal.returns-in-Some
@@ -31,8 +31,8 @@ returns-in-Some g c =
     let operands = ap (λ (f : Frame). f.operands) c.frame.view_is in
     let n = c.in_ok-index.index in
     let fits : to_z w32 (of_z w32 n) ≡ n = search rules in
-    λ p go. rw ((rw operands at c.in_ok-index.ensures.ok), (rw operands at c.in_ok-array.ensures.ok))
-    (rw fits at (c.in_ok-element.ensures p (value_of go)) ∙ c.in_ok-value.ensures p (λ o. needing o go)
+    λ P p go. rw ((rw operands at c.in_ok-index.ensures.ok), (rw operands at c.in_ok-array.ensures.ok))
+    (rw fits at (c.in_ok-element.ensures P p (value_of go)) ∙ c.in_ok-value.ensures p (λ o. needing o go)
     ∙ rw c.in-Some.is refl)
 
 pub returns-in-None : goal.returns-in-None
@@ -40,6 +40,6 @@ returns-in-None g c =
     let operands = ap (λ (f : Frame). f.operands) c.frame.view_is in
     let n = c.in_ok-index.index in
     let fits : to_z w32 (of_z w32 n) ≡ n = search rules in
-    λ p go. rw ((rw operands at c.in_ok-index.ensures.ok), (rw operands at c.in_ok-array.ensures.ok))
-    (rw fits at (c.in_ok-element.ensures p (value_of go)) ∙ c.in_ok-value.ensures p (λ o. needing o go)
+    λ P p go. rw ((rw operands at c.in_ok-index.ensures.ok), (rw operands at c.in_ok-array.ensures.ok))
+    (rw fits at (c.in_ok-element.ensures P p (value_of go)) ∙ c.in_ok-value.ensures p (λ o. needing o go)
     ∙ rw c.in-None.is refl)

@@ -16,7 +16,7 @@ returns-in_err-element g c =
     rw (c.stored_as.ensures, operands) at c.in_ok-value.ensures.ok in
     let same : c.from_residual-in_err-element.result ≡ Err c.in_err-element.field-0.0 = search rules in
     λ p. rw same (λ go. rw (value, (rw operands at c.in_ok-index.ensures.ok), (rw operands at c.in_ok-array.ensures.ok))
-    (rw fits at (c.in_err-element.ensures p (assigned c.args.program.now v go))))
+    (rw fits at (c.in_err-element.ensures c.args.program.now p (assigned c.args.program.now v go))))
 
 pub returns-in_err-check_store : goal.returns-in_err-check_store
 returns-in_err-check_store g c =
@@ -29,8 +29,8 @@ returns-in_err-check_store g c =
     let abrupt = c.in_err-check_store.field-0.0 in
     let same : c.from_residual-in_err-check_store.result ≡ Err abrupt = search rules in
     λ p. rw same (λ go. rw (value, (rw operands at c.in_ok-index.ensures.ok), (rw operands at c.in_ok-array.ensures.ok))
-    (ends_at g.S.Store.stopped (g.S.Store.run c.args.by (g.S.Store.state c.args.store.now p)) _ _ abrupt
-    (rw fits at (c.in_ok-element.ensures p (assigned c.args.program.now v go)))
+    (ends_at c.args.program.now g.S.Store.stopped (g.S.Store.run c.args.by (g.S.Store.state c.args.store.now p)) _ _ abrupt
+    (rw fits at (c.in_ok-element.ensures c.args.program.now p (assigned c.args.program.now v go)))
     (c.in_err-check_store.ensures p (go (record { element = c.in_ok-element.element; value = v })))))
 
 pub returns : goal.returns
@@ -42,5 +42,5 @@ returns g c =
     let value : top_stored (stored_as c.args.kind) c.args.frame.now.operands ≡ Some v =
     rw (c.stored_as.ensures, operands) at c.in_ok-value.ensures.ok in
     λ p go. rw (value, (rw operands at c.in_ok-index.ensures.ok), (rw operands at c.in_ok-array.ensures.ok))
-    (rw fits at (c.in_ok-element.ensures p (assigned c.args.program.now v go))
+    (rw fits at (c.in_ok-element.ensures c.args.program.now p (assigned c.args.program.now v go))
     ∙ c.in_ok-check_store.ensures p (go (record { element = c.in_ok-element.element; value = v })))

@@ -7,4 +7,5 @@ pub returns-in_err-name : goal.returns-in_err-name
 returns-in_err-name g c =
     let operands = ap (λ (f : Frame). f.operands) c.frame.view_is in
     let same : c.from_residual-in_err-name.result ≡ Err c.in_err-name.field-0.0 = search rules in
-    λ p. rw same (λ go. rw (rw operands at c.in_ok-array.ensures.ok) (c.in_err-name.ensures p (length_of go)))
+    λ P p. rw same (λ go. rw (rw operands at c.in_ok-array.ensures.ok)
+    (c.in_err-name.ensures P p (length_of P go)))

@@ -10,11 +10,11 @@ pub returns-in-Ok-clause-gives : goal.returns-in-Ok-clause-gives
 returns-in-Ok-clause-gives g c =
     let f = c.args.frame.now in
     let same : to_z w32 (of_z w32 c.in-Ok.length) ≡ c.in-Ok.length = search rules in
-    λ p. c.in-Ok.ensures p (λ n. push (Int n) (with_operands f (rest f.operands)))
+    λ p. c.in-Ok.ensures c.args.program.now p (λ n. push (Int n) (with_operands f (rest f.operands)))
     ∙ ap (g.S.Store.run c.args.by (g.S.Store.state c.args.store.now p)) (rw same at c.replace_top.ensures.gives)
 
 pub returns-in-Err-clause-gives : goal.returns-in-Err-clause-gives
 returns-in-Err-clause-gives g c =
     let f = c.args.frame.now in
-    λ p. c.end_early.ensures.gives p (array_length f) f
-    (c.in-Err.ensures p (λ n. push (Int n) (with_operands f (rest f.operands))))
+    λ p. c.end_early.ensures.gives p (array_length c.args.program.now f) f
+    (c.in-Err.ensures c.args.program.now p (λ n. push (Int n) (with_operands f (rest f.operands))))

@@ -12,6 +12,6 @@ returns-in_default-name_of-clause-gives g c =
     c.without_object.result
     (ap (g.S.Store.run c.args.by (g.S.Store.state c.args.store.now p))
     (got_nameless c.args.program.now c.args.field c.args.frame.now c.in-Ok.holder (rw operands at c.in-Ok.ensures.ok)
-    (search rules)
+    (search rules) (sym c.is_blank.ensures ∙ c.if-is_blank.false)
     (sym c.name_of.ensures ∙ c.in_default-name_of.is)))
     (c.without_object.ensures.gives p c.args.frame.now)

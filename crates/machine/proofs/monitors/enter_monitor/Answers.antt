@@ -11,6 +11,6 @@ returns-in_default-name_of-clause-gives g c =
     (g.S.Store.run c.args.by (g.S.Store.state c.without_monitor.new.store p)) _ _ c.args.frame.now
     c.without_monitor.result
     (ap (g.S.Store.run c.args.by (g.S.Store.state c.args.store.now p))
-    (entered_nameless c.args.frame.now c.in-Ok.value (rw operands at c.in-Ok.ensures.ok)
+    (entered_nameless c.args.program.now c.args.frame.now c.in-Ok.value (rw operands at c.in-Ok.ensures.ok)
     (sym c.name_of.ensures ∙ c.in_default-name_of.is)))
     (c.without_monitor.ensures.gives p c.args.frame.now)
