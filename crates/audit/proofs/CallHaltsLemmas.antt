@@ -44,7 +44,10 @@ use Rattle.machine.specs.Members.{on_enum, name_once, new_enum, replaced, or_slo
 use Rattle.machine.specs.Members.{member_row}
 use Rattle.machine.specs.Calls.{parameters_at, has_arguments, receiver_under, reaches, reached, enter_static, runs}
 use Rattle.machine.specs.Calls.{runs_chosen, is_out, unless_null, called_on}
-use Rattle.machine.specs.Printing.{printed_text, ended, print_on}
+use Rattle.classfile.specs.Printing.{printed_units}
+use Rattle.built_in.specs.declared.method.Printed.{Printed}
+use Rattle.machine.specs.MadeStrings.{ask_chars, ask_chars_of, ask_made_string, is_chars, is_string_object}
+use Rattle.machine.specs.Printing.{printed_text, object_printed, ended, print_on, print_made, print_plain, print_value}
 use Rattle.machine.specs.Operations.{OnCall}
 use Rattle.machine.specs.Table.{call_row}
 use Rattle.use_graph.specs.declared.callee.Callee.{Callee}
@@ -55,7 +58,7 @@ use Rattle.audit.specs.Ends.{IsByOperands, unnamed, no_method, IsLack, Unsupport
 use Rattle.use_graph.proofs.ScopeUsesLemmas.{selected_given}
 use Rattle.audit.proofs.HaltsLemmas.{IsFor, HaltsFor, LeadsFor, LeadsAt, Suits, at_state, fault, went, used, asked}
 use Rattle.audit.proofs.HaltsLemmas.{looked, changed, made}
-use Rattle.audit.proofs.HaltsLemmas.{need, either, pushes, on_object}
+use Rattle.audit.proofs.HaltsLemmas.{need, either, native_suits, pushes, on_object}
 
 -- ---- weaker reasons
 
@@ -106,7 +109,7 @@ module _ (t : ℕ) (maker : Maker) (P : Tables) (f : Frame) where
 
     enums : (v : Value) (go : Name → Row) → ((x : Name) → IsSuited (go x)) → IsSuited (on_enum P v go)
     enums v go on =
-        on_object t maker Why v _ (λ x.
+        on_object t maker Why P v _ (λ x.
         asked t maker Why x _ (λ o.
         either t maker Why (is_enum_object P o) (go x) _ (on x) (fault t maker Why)))
 
@@ -165,7 +168,7 @@ module _ (t : ℕ) (maker : Maker) (P : Tables) (f : Frame) where
   members_suit members.EnumName count v = parts _ 0 v
   members_suit members.EnumOrdinal count v = parts _ 1 v
   members_suit members.CloneArray count v =
-      on_object t maker _ v _ (λ x. asked t maker _ x (clone_if_array x f) (clones _ x))
+      on_object t maker _ P v _ (λ x. asked t maker _ x (clone_if_array x f) (clones _ x))
   members_suit (members.Print what) count v = fault t maker _
   members_suit (members.PrintLine what) count v = fault t maker _
   members_suit members.EndLine count v = fault t maker _
@@ -173,10 +176,11 @@ module _ (t : ℕ) (maker : Maker) (P : Tables) (f : Frame) where
   -- ---- methods of given classes
 
   reaches_suit : (d k count : ℕ) (o : Option Implementation) → implementation_at P d k ≡ o
-      → Suits t maker (RunsFor P f (Some (methods.Given d k))) (reaches d k count f o)
+      → Suits t maker (RunsFor P f (Some (methods.Given d k))) (reaches P d k count f o)
   reaches_suit d k count None is = record { leads = λ sh. nothing (inl is) }
   reaches_suit d k count (Some implementations.Abstract) is = record { leads = λ sh. nothing (inr is) }
   reaches_suit d k count (Some implementations.Unsupported) is = record { leads = λ sh. left_out d k refl is }
+  reaches_suit d k count (Some (implementations.Native native)) is = native_suits t maker _ P native f
   reaches_suit d k count (Some (implementations.Code code)) is =
       need t maker _ (passed (replicate code.max_locals None) 0 (taken count f.operands)) _ (λ locals so.
       went t maker _ _)
@@ -184,7 +188,7 @@ module _ (t : ℕ) (maker : Maker) (P : Tables) (f : Frame) where
   reached_suit : (d k count : ℕ) → Suits t maker (RunsFor P f (Some (methods.Given d k))) (reached P d k count f)
   reached_suit d k count =
       either t maker _ (is_method k (initializer_in P d)) (halts faults.Fault)
-      (reaches d k count f (implementation_at P d k))
+      (reaches P d k count f (implementation_at P d k))
       (fault t maker _) (reaches_suit d k count (implementation_at P d k) refl)
 
   runs_suit : (count : ℕ) (v : Value) (m : Option FoundMethod) → Suits t maker (RunsFor P f m) (runs P count v f m)
@@ -258,7 +262,7 @@ module _ (t : ℕ) (maker : Maker) (P : Tables) (f : Frame) where
         by_name (Some x) is =
             record { leads = (by_class (class_at (pool_of sh x.maker) x.number) (ap (class_by sh v) is)).leads }
 
-    unless_null_leads : (call : CallOperation) (r : Row) (v : Value) → Leads call r → Leads call (unless_null r v)
+    unless_null_leads : (call : CallOperation) (r : Row) (v : Value) → Leads call r → Leads call (unless_null P r v)
     unless_null_leads call r values.Null on = record { leads = tt }
     unless_null_leads call r (values.Int n) on = on
     unless_null_leads call r (values.Long n) on = on
@@ -281,7 +285,7 @@ module _ (t : ℕ) (maker : Maker) (P : Tables) (f : Frame) where
         → receiver_of P call f ≡ Some v → Leads call (called_on P k count f v)
     on_leads call k same count v on =
         either_leads call (is_out v && not k.names_stream) (halts faults.Fault)
-        (unless_null (runs_chosen P k.choice count f v) v) (record { leads = tt })
+        (unless_null P (runs_chosen P k.choice count f v) v) (record { leads = tt })
         (unless_null_leads call (runs_chosen P k.choice count f v) v (chosen_leads call k.choice same count v on))
 
     print_leads : (call : CallOperation) (k : InstanceCall) → choice_of call ≡ k.choice → (text : List ℕ)
@@ -304,21 +308,57 @@ module _ (t : ℕ) (maker : Maker) (P : Tables) (f : Frame) where
         })
         (fault t maker _))
 
+    -- ---- prints of values
+
+    named_leads : (call : CallOperation) (n : Option Name) (other : Row) (go : Name → Row) → Leads call other
+        → ((x : Name) → Leads call (go x)) → Leads call (on_name n other go)
+    named_leads call None other go otherwise on = otherwise
+    named_leads call (Some x) other go otherwise on = on x
+
+    asked_leads : (call : CallOperation) (x : Name) (next : Option ClassId → Row)
+        → ((o : Option ClassId) → Leads call (next o)) → Leads call (AskClass x next)
+    asked_leads call x next on = record { leads = (on (class_at (pool_of sh x.maker) x.number)).leads }
+
+    chars_lead : (call : CallOperation) (next : Option (List ℕ) → Row)
+        → ((o : Option (List ℕ)) → Leads call (next o)) → (o : Option Value) → Leads call (ask_chars_of o next)
+    chars_lead call next on None = on None
+    chars_lead call next on (Some v) =
+        named_leads call (name_of v) (next None) (λ y. ask_chars y next) (on None) (λ y.
+        asked_leads call y _ (λ o. either_leads call (is_chars o) _ (next None) (record { leads = (on _).leads })
+        (on None)))
+
+    made_leads : (call : CallOperation) (x : Name) (next : Option (List ℕ) → Row)
+        → ((o : Option (List ℕ)) → Leads call (next o)) → Leads call (ask_made_string P x next)
+    made_leads call x next on =
+        asked_leads call x _ (λ o. either_leads call (is_string_object P o) _ (next None)
+        (record { leads = (chars_lead call next on _).leads }) (on None))
+
+    received_leads : (what : Printed) (line : Bool) (k : InstanceCall) (text : List ℕ)
+        → Leads (calls.Print what line k) (needing (top_as Reference (rest f.operands)) (print_on P text 2 k f))
+    received_leads what line k text =
+        need_leads (calls.Print what line k) (top_as Reference (rest f.operands)) (print_on P text 2 k f) (λ w on.
+        print_leads (calls.Print what line k) k refl text 2 w on)
+
+    value_leads : (what : Printed) (line : Bool) (k : InstanceCall)
+        → Leads (calls.Print what line k) (print_value P what line k f)
+    value_leads what line k =
+        let call = calls.Print what line k in
+        need_leads call (top f.operands) _ (λ v is.
+        named_leads call (object_printed P what v) (print_plain P what v line k f) (λ x. print_made P x line k f)
+        (need_leads call (printed_text P what v) _ (λ text so. received_leads what line k (ended line text)))
+        (λ x. made_leads call x _ (λ o.
+        need_leads call o _ (λ units so. received_leads what line k (ended line (printed_units units))))))
+
     pub call_leads : (call : CallOperation) → Leads call (call_row P call f)
     call_leads (calls.Static k) =
         at_state t maker (CallsFor P sh f (calls.Static k)) sh _
-        (used t maker _ k.class (enter_static P k f) (static_suits k))
+        (used t maker _ P k.class (enter_static P k f) (static_suits k))
     call_leads (calls.Instance k) =
         need_leads (calls.Instance k) (parameters_at P k.caller k.descriptor) _ (λ kinds is.
         need_leads (calls.Instance k) (receiver_under kinds f.operands) (called_on P k (length kinds + 1) f) (λ v on.
         on_leads (calls.Instance k) k refl (length kinds + 1) v
         (ap (λ (o : Option (List FieldKind)). receiver_for o f) is ∙ on)))
-    call_leads (calls.Print what line k) =
-        need_leads (calls.Print what line k) (top f.operands) _ (λ v is.
-        need_leads (calls.Print what line k) (printed_text P what v) _ (λ text so.
-        need_leads (calls.Print what line k) (top_as Reference (rest f.operands))
-        (print_on P (ended line text) 2 k f) (λ w on.
-        print_leads (calls.Print what line k) k refl (ended line text) 2 w on)))
+    call_leads (calls.Print what line k) = value_leads what line k
     call_leads (calls.EndLine k) =
         need_leads (calls.EndLine k) (top_as Reference f.operands) (print_on P (10 ∷ []) 1 k f) (λ w on.
         print_leads (calls.EndLine k) k refl (10 ∷ []) 1 w on)

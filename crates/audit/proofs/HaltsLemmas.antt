@@ -44,7 +44,12 @@ use Rattle.machine.specs.RowParts.{halts, needing, goes_on, push, raises, if_usa
 use Rattle.machine.specs.ObjectParts.{slot_in, size_in, on_name, class_of_nameless, ask_class_of, without_object}
 use Rattle.machine.specs.ObjectParts.{with_object}
 use Rattle.machine.specs.Objects.{new_object, is_of, ask_is_of, cast_row, check_cast, int_of_boolean, instance_of}
-use Rattle.machine.specs.Objects.{throw_of, throw_row, is_holder, on_holder, get_field, put_field}
+use Rattle.machine.specs.Objects.{throw_of, throw_row, is_blank, is_holder, on_holder, get_field, put_field}
+use Rattle.machine.specs.Natives.{units_at, unit_at, unit_or_raise, with_class, chars, char_of, native_row}
+use Rattle.program.specs.ClassNames.{class_number, class_units}
+use Rattle.program.specs.Programs.{zero_of as zero_of_field}
+use Rattle.program.specs.declared.native.Native.{Native}
+use Rattle.program.specs.declared.native.Native.TheVariants as natives
 use Rattle.machine.specs.Arrays.{unless_trapped, array_type, served_type, slot_at, size_of, make_array, array_length}
 use Rattle.machine.specs.Arrays.{at_element, load_element, is_checked, if_held, can_hold, check_store, store_element}
 use Rattle.machine.specs.Arrays.{stored_as, array_row, type_of_primitives, zero_of}
@@ -90,8 +95,8 @@ module _ (t : ℕ) (maker : Maker) (Why : FaultKind → Type 0) where
   pub thrown : (x : Name) (class : ClassId) → IsSuited (Ends (Raise x class))
   thrown x class = record { leads = λ sh. tt }
 
-  pub raised : (class : BuiltInClass) → IsSuited (raises class)
-  raised class = record { leads = λ sh. tt }
+  pub raised : (P : Tables) (class : BuiltInClass) → IsSuited (raises P class)
+  raised P class = record { leads = λ sh. tt }
 
   -- ---- classes and monitors
 
@@ -102,8 +107,8 @@ module _ (t : ℕ) (maker : Maker) (Why : FaultKind → Type 0) where
   by_use c ready broken Busy on off = tt
   by_use c ready broken Broken on off = off
 
-  pub used : (c : ℕ) (r : Row) → IsSuited r → IsSuited (UseClass c (if_usable r))
-  used c r on = record { leads = λ sh. by_use c _ _ (usable t (sh.states c)) (on.leads sh) tt }
+  pub used : (P : Tables) (c : ℕ) (r : Row) → IsSuited r → IsSuited (UseClass c (if_usable P r))
+  used P c r on = record { leads = λ sh. by_use c _ _ (usable t (sh.states c)) (on.leads sh) tt }
 
   pub read : (c k : ℕ) (next : Value → Row) → ((v : Value) → IsSuited (next v)) → IsSuited (ReadStatic c k next)
   read c k next on =
@@ -170,17 +175,18 @@ module _ (t : ℕ) (maker : Maker) (Why : FaultKind → Type 0) where
   named None other go otherwise on = otherwise
   named (Some x) other go otherwise on = on x
 
-  nameless : (v : Value) → IsSuited (without_object v)
-  nameless values.Null = raised builtins.NullPointerException
-  nameless (values.Text s) = fault
-  nameless values.Out = fault
-  nameless (values.OfClass c k) = fault
-  nameless (values.OfThread u k) = fault
-  nameless (values.Int n) = fault
-  nameless (values.Long n) = fault
+  nameless : (P : Tables) (v : Value) → IsSuited (without_object P v)
+  nameless P values.Null = raised P builtins.NullPointerException
+  nameless P (values.Text s) = fault
+  nameless P values.Out = fault
+  nameless P (values.OfClass c k) = fault
+  nameless P (values.OfThread u k) = fault
+  nameless P (values.Int n) = fault
+  nameless P (values.Long n) = fault
 
-  pub on_object : (v : Value) (go : Name → Row) → ((x : Name) → IsSuited (go x)) → IsSuited (with_object v go)
-  on_object v go on = named (name_of v) (without_object v) go (nameless v) on
+  pub on_object : (P : Tables) (v : Value) (go : Name → Row) → ((x : Name) → IsSuited (go x))
+      → IsSuited (with_object P v go)
+  on_object P v go on = named (name_of v) (without_object P v) go (nameless P v) on
 
   pub of_class : (v : Value) (next : Option ClassId → Row) → ((o : Option ClassId) → IsSuited (next o))
       → IsSuited (ask_class_of v next)
@@ -188,78 +194,78 @@ module _ (t : ℕ) (maker : Maker) (Why : FaultKind → Type 0) where
       named (name_of v) (next (class_of_nameless v)) (λ x. AskClass x next) (on (class_of_nameless v)) (λ x.
       asked x next on)
 
-  trapped : {A : Type 0} (r : RustResult A Trap) (go : A → Row) → ((a : A) → IsSuited (go a))
-      → IsSuited (unless_trapped r go)
-  trapped (Ok a) go on = on a
-  trapped (Err traps.Fault) go on = fault
-  trapped (Err (traps.Raise class)) go on = raised class
+  trapped : {A : Type 0} (P : Tables) (r : RustResult A Trap) (go : A → Row) → ((a : A) → IsSuited (go a))
+      → IsSuited (unless_trapped P r go)
+  trapped P (Ok a) go on = on a
+  trapped P (Err traps.Fault) go on = fault
+  trapped P (Err (traps.Raise class)) go on = raised P class
 
   -- ---- arrays
 
-  makes : (a : ArrayType) (first : Value) (f : Frame) → IsSuited (make_array a first f)
-  makes a first f =
+  makes : (P : Tables) (a : ArrayType) (first : Value) (f : Frame) → IsSuited (make_array P a first f)
+  makes P a first f =
       need (top_int f.operands) _ (λ count is.
-      trapped (size_of count) _ (λ size.
+      trapped P (size_of count) _ (λ size.
       made (Array a) (replicate size first) _ (λ x. pushes (value_of x) (with_operands f (rest f.operands)))))
 
-  measures : (f : Frame) → IsSuited (array_length f)
-  measures f =
+  measures : (P : Tables) (f : Frame) → IsSuited (array_length P f)
+  measures P f =
       need (top_as Reference f.operands) _ (λ array is.
-      on_object array _ (λ name.
+      on_object P array _ (λ name.
       asked name _ (λ class.
-      trapped (array_type class) _ (λ a.
+      trapped P (array_type class) _ (λ a.
       looked name _ _ (λ vs.
       need (int_of (slot_in vs 0)) (λ n. push (values.Int n) (with_operands f (rest f.operands)))
       (λ n so. pushes (values.Int n) (with_operands f (rest f.operands))))))))
 
-  element : (kind : ElementKind) (array : Value) (index : ℤ) (go : Name → ArrayType → ℕ → Row)
+  element : (P : Tables) (kind : ElementKind) (array : Value) (index : ℤ) (go : Name → ArrayType → ℕ → Row)
       → ((name : Name) (a : ArrayType) (slot : ℕ) → IsSuited (go name a slot))
-      → IsSuited (at_element kind array index go)
-  element kind array index go on =
-      on_object array _ (λ name.
+      → IsSuited (at_element P kind array index go)
+  element P kind array index go on =
+      on_object P array _ (λ name.
       asked name _ (λ class.
-      trapped (served_type kind class) _ (λ a.
+      trapped P (served_type kind class) _ (λ a.
       looked name _ _ (λ vs.
-      trapped (slot_at index (size_in vs)) (go name a) (on name a)))))
+      trapped P (slot_at index (size_in vs)) (go name a) (on name a)))))
 
-  loads : (kind : ElementKind) (f : Frame) → IsSuited (load_element kind f)
-  loads kind f =
+  loads : (P : Tables) (kind : ElementKind) (f : Frame) → IsSuited (load_element P kind f)
+  loads P kind f =
       need (top_int f.operands) _ (λ index is.
       need (top_as Reference (rest f.operands)) _ (λ array so.
-      element kind array index _ (λ name a slot.
+      element P kind array index _ (λ name a slot.
       looked name _ _ (λ vs.
       need (slot_in vs slot) _ (λ v at. pushes v (with_operands f (rest (rest f.operands))))))))
 
-  holds : (b : Bool) (row : Row) → IsSuited row → IsSuited (if_held b row)
-  holds true row on = on
-  holds false row on = raised builtins.ArrayStoreException
+  holds : (P : Tables) (b : Bool) (row : Row) → IsSuited row → IsSuited (if_held P b row)
+  holds P true row on = on
+  holds P false row on = raised P builtins.ArrayStoreException
 
   checks : (P : Tables) (a : ArrayType) (v : Value) (row : Row) → IsSuited row → IsSuited (check_store P a v row)
   checks P a v row on =
       either (is_checked v) (ask_class_of v checked) row
-      (of_class v checked (λ o. need o (λ class. if_held (can_hold P a class) row) (λ class is.
-      holds (can_hold P a class) row on)))
+      (of_class v checked (λ o. need o (λ class. if_held P (can_hold P a class) row) (λ class is.
+      holds P (can_hold P a class) row on)))
       on
     where
       checked : Option ClassId → Row
-      checked o = needing o (λ class. if_held (can_hold P a class) row)
+      checked o = needing o (λ class. if_held P (can_hold P a class) row)
 
   stores : (P : Tables) (kind : ElementKind) (f : Frame) → IsSuited (store_element P kind f)
   stores P kind f =
       need (top_stored (stored_as kind) f.operands) _ (λ v is.
       need (top_int (rest f.operands)) _ (λ index so.
       need (top_as Reference (rest (rest f.operands))) _ (λ array at.
-      element kind array index (λ name a slot. check_store P a v (put name slot v)) (λ name a slot.
+      element P kind array index (λ name a slot. check_store P a v (put name slot v)) (λ name a slot.
       checks P a v (put name slot v) (changed name slot v _ (went _))))))
     where
       put : Name → ℕ → Value → Row
       put name slot v = Change name slot v (goes_on (advanced (with_operands f (rest (rest (rest f.operands))))))
 
   pub array_suits : (P : Tables) (operation : ArrayOperation) (f : Frame) → IsSuited (array_row P operation f)
-  array_suits P (arrays.New kind) f = makes (type_of_primitives kind) (zero_of kind) f
-  array_suits P (arrays.NewOfReferences a) f = makes a values.Null f
-  array_suits P arrays.Length f = measures f
-  array_suits P (arrays.Load kind) f = loads kind f
+  array_suits P (arrays.New kind) f = makes P (type_of_primitives kind) (zero_of kind) f
+  array_suits P (arrays.NewOfReferences a) f = makes P a values.Null f
+  array_suits P arrays.Length f = measures P f
+  array_suits P (arrays.Load kind) f = loads P kind f
   array_suits P (arrays.Store kind) f = stores P kind f
 
   -- ---- instances of classes
@@ -272,12 +278,12 @@ module _ (t : ℕ) (maker : Maker) (Why : FaultKind → Type 0) where
   pub cast_suits : (P : Tables) (class : ClassId) (f : Frame) → IsSuited (check_cast P class f)
   cast_suits P class f =
       need (top_as Reference f.operands)
-      (λ v. cond (is_null v) (goes_on (advanced f)) (ask_is_of P class v (cast_row f)))
+      (λ v. cond (is_null v) (goes_on (advanced f)) (ask_is_of P class v (cast_row P f)))
       (λ v is.
-      either (is_null v) (goes_on (advanced f)) (ask_is_of P class v (cast_row f)) (went _)
-      (of_class v (λ o. cast_row f (is_of P class o)) (λ o.
-      either (is_of P class o) (goes_on (advanced f)) (raises builtins.ClassCastException) (went _)
-      (raised builtins.ClassCastException))))
+      either (is_null v) (goes_on (advanced f)) (ask_is_of P class v (cast_row P f)) (went _)
+      (of_class v (λ o. cast_row P f (is_of P class o)) (λ o.
+      either (is_of P class o) (goes_on (advanced f)) (raises P builtins.ClassCastException) (went _)
+      (raised P builtins.ClassCastException))))
 
   pub instance_suits : (P : Tables) (class : ClassId) (f : Frame) → IsSuited (instance_of P class f)
   instance_suits P class f =
@@ -296,21 +302,54 @@ module _ (t : ℕ) (maker : Maker) (Why : FaultKind → Type 0) where
   pub throw_suits : (P : Tables) (f : Frame) → IsSuited (throw_row P f)
   throw_suits P f =
       need (top_as Reference f.operands) _ (λ v is.
-      on_object v _ (λ x. asked x (throw_of P x) (throws P x)))
+      on_object P v _ (λ x. asked x (throw_of P x) (throws P x)))
 
   holder : (P : Tables) (field : InstanceField) (v : Value) (go : Name → Row) → ((x : Name) → IsSuited (go x))
       → IsSuited (on_holder P field v go)
   holder P field v go on =
-      on_object v _ (λ x. asked x _ (λ o. either (is_holder P field.class o) (go x) _ (on x) fault))
+      on_object P v _ (λ x. asked x _ (λ o. either (is_holder P field.class o) (go x) _ (on x) fault))
 
   pub get_suits : (P : Tables) (field : InstanceField) (f : Frame) → IsSuited (get_field P field f)
   get_suits P field f =
       need (top_as Reference f.operands) _ (λ v is.
       either (nat_le (extra_places field.kind) f.operands.free) _ _
+      (either (is_blank P field v) _ _ (pushes (zero_of_field field.kind) (with_operands f (rest f.operands)))
       (holder P field v _ (λ x.
       looked x _ _ (λ vs.
-      need (slot_in vs field.slot) _ (λ held at. pushes held (with_operands f (rest f.operands))))))
+      need (slot_in vs field.slot) _ (λ held at. pushes held (with_operands f (rest f.operands)))))))
       fault)
+
+  -- ---- native methods of a library, and strings that it makes
+
+  with_class_suits : (P : Tables) (v : Value) (go : ClassId → Row) → ((class : ClassId) → IsSuited (go class))
+      → IsSuited (with_class P v go)
+  with_class_suits P v go on =
+      either (is_null v) (raises P builtins.NullPointerException) (ask_class_of v (λ o. needing o go))
+      (raised P builtins.NullPointerException) (of_class v (λ o. needing o go) (λ o. need o go (λ class is. on class)))
+
+  unit_suits : (P : Tables) (f : Frame) (o : Option ℕ) → IsSuited (unit_or_raise P f o)
+  unit_suits P f None = raised P builtins.IndexOutOfBoundsException
+  unit_suits P f (Some unit) = pushes (char_of unit) (with_operands f (rest (rest f.operands)))
+
+  pub native_suits : (P : Tables) (native : Native) (f : Frame) → IsSuited (native_row P native f)
+  native_suits P natives.ConstantLength f =
+      need (top_as Reference f.operands) _ (λ v is.
+      need (units_at P v) _ (λ units so.
+      pushes (values.Int (int_length (length units))) (with_operands f (rest f.operands))))
+  native_suits P natives.ConstantAt f =
+      need (top_int f.operands) _ (λ index is.
+      need (top_as Reference (rest f.operands)) _ (λ v so.
+      need (units_at P v) _ (λ units at. unit_suits P f (unit_at units index))))
+  native_suits P natives.ClassName f =
+      need (top_as Reference f.operands) _ (λ v is.
+      with_class_suits P v _ (λ class.
+      made (Array chars) (map char_of (class_units P class)) _ (λ x.
+      pushes (value_of x) (with_operands f (rest f.operands)))))
+  native_suits P natives.ClassNumber f =
+      need (top_as Reference f.operands) _ (λ v is.
+      with_class_suits P v _ (λ class.
+      pushes (values.Int (class_number P.family class)) (with_operands f (rest f.operands))))
+  native_suits P natives.Raise f = throw_suits P f
 
   pub put_suits : (P : Tables) (field : InstanceField) (f : Frame) → IsSuited (put_field P field f)
   put_suits P field f =

@@ -77,8 +77,8 @@ module _ (t : ℕ) (maker : Maker) (P : Tables) (f : Frame) where
     -- where to have no monitor is such a reason
     module _ (none : (v : Value) → top_as Reference f.operands ≡ Some v → HasNoMonitor v
         → Why faults.Unsupported) where
-      nameless : (v : Value) → top_as Reference f.operands ≡ Some v → Suits t maker Why (without_monitor v)
-      nameless values.Null is = raised t maker Why builtins.NullPointerException
+      nameless : (v : Value) → top_as Reference f.operands ≡ Some v → Suits t maker Why (without_monitor P v)
+      nameless values.Null is = raised t maker Why P builtins.NullPointerException
       nameless (values.Text s) is = record { leads = λ sh. none (values.Text s) is (Text s) }
       nameless values.Out is = record { leads = λ sh. none values.Out is Out }
       nameless (values.OfClass c k) is = fault t maker Why
@@ -87,12 +87,12 @@ module _ (t : ℕ) (maker : Maker) (P : Tables) (f : Frame) where
       nameless (values.Long n) is = fault t maker Why
 
       monitors : (way : Bool) (next : Bool → Row) → ((b : Bool) → Suits t maker Why (next b))
-          → Suits t maker Why (use_monitor way f next)
+          → Suits t maker Why (use_monitor P way f next)
       monitors way next on =
           need t maker Why (top_as Reference f.operands) _ (λ v is. by_name v is (name_of v))
         where
           by_name : (v : Value) → top_as Reference f.operands ≡ Some v → (n : Option Name)
-              → Suits t maker Why (on_name n (without_monitor v) (λ x. UseMonitor x way next))
+              → Suits t maker Why (on_name n (without_monitor P v) (λ x. UseMonitor x way next))
           by_name v is None = nameless v is
           by_name v is (Some x) = locked t maker Why x way next on
 
@@ -100,14 +100,14 @@ module _ (t : ℕ) (maker : Maker) (P : Tables) (f : Frame) where
     enters true = went t maker Why _
     enters false = fault t maker Why
 
-    leaves : (b : Bool) → Suits t maker Why (left f b)
+    leaves : (b : Bool) → Suits t maker Why (left P f b)
     leaves true = went t maker Why _
-    leaves false = raised t maker Why builtins.IllegalMonitorStateException
+    leaves false = raised t maker Why P builtins.IllegalMonitorStateException
 
-    locals : (r : RustResult Frame Trap) → Suits t maker Why (local_row r)
+    locals : (r : RustResult Frame Trap) → Suits t maker Why (local_row P r)
     locals (Ok g) = went t maker Why _
     locals (Err traps.Fault) = fault t maker Why
-    locals (Err (traps.Raise class)) = raised t maker Why class
+    locals (Err (traps.Raise class)) = raised t maker Why P class
 
     returns_suit : (kind : ReturnKind) → Suits t maker Why (return_row kind f)
     returns_suit returns.Nothing = went t maker Why _
@@ -119,7 +119,7 @@ module _ (t : ℕ) (maker : Maker) (P : Tables) (f : Frame) where
   module _ (sh : SharedState) where
     object_suits : (o : ObjectOperation) → Suits t maker (HaltsBy P sh f (OnObject o)) (object_row P o f)
     object_suits (objects.NewGiven c) =
-        used t maker _ c _ (new_suits t maker _ (Given c) (map zero_of (slots_of P.family c)) f)
+        used t maker _ P c _ (new_suits t maker _ (Given c) (map zero_of (slots_of P.family c)) f)
     object_suits (objects.NewBuiltIn b) = new_suits t maker _ (BuiltIn b) [] f
     object_suits (objects.CheckCast class) = cast_suits t maker _ P class f
     object_suits (objects.InstanceOf class) = instance_suits t maker _ P class f
@@ -129,7 +129,7 @@ module _ (t : ℕ) (maker : Maker) (P : Tables) (f : Frame) where
     object_suits objects.EnterMonitor =
         monitors _ (λ v is no. lacks (enter refl is no)) true (entered f) (enters _)
     object_suits objects.ExitMonitor =
-        monitors _ (λ v is no. lacks (exit refl is no)) false (left f) (leaves _)
+        monitors _ (λ v is no. lacks (exit refl is no)) false (left P f) (leaves _)
 
     refuses : (kind : FaultKind)
         → LeadsAt t maker sh (HaltsBy P sh f (Refused kind)) (operation_row P (Refused kind) f)
@@ -138,12 +138,12 @@ module _ (t : ℕ) (maker : Maker) (P : Tables) (f : Frame) where
     refuses faults.Missing = record { leads = refused refl }
 
     gets : (c k : ℕ) → Suits t maker (HaltsBy P sh f (GetStatic c k)) (operation_row P (GetStatic c k) f)
-    gets c k = used t maker _ c _ (read t maker _ c k (λ v. push v f) (λ v. pushes t maker _ v f))
+    gets c k = used t maker _ P c _ (read t maker _ c k (λ v. push v f) (λ v. pushes t maker _ v f))
 
     puts : (kind : FieldKind) (c k : ℕ)
         → Suits t maker (HaltsBy P sh f (PutStatic kind c k)) (operation_row P (PutStatic kind c k) f)
     puts kind c k =
-        used t maker _ c _ (need t maker _ (top_stored kind f.operands) _ (λ v is.
+        used t maker _ P c _ (need t maker _ (top_stored kind f.operands) _ (λ v is.
         written t maker _ c k v _ (went t maker _ _)))
 
     called_for : (call : CallOperation) (kind : FaultKind) → CallsFor P sh f call kind
@@ -187,6 +187,7 @@ has_pc P d k place i = by (implementation_at P d k)
     by (Some (implementations.Code code)) e = of (slice_get code.body place) e
     by (Some implementations.Abstract) e = absurd cc
     by (Some implementations.Unsupported) e = absurd cc
+    by (Some (implementations.Native native)) e = absurd cc
 
 operation_pc : (P : Tables) (d k place : ℕ) (o : Operation) → operation_at P d k place ≡ Some o
     → (pc : ℕ) × (pc_at P d k place ≡ Some pc)
@@ -255,6 +256,8 @@ module _ (P : Tables) (entries : List ℕ) (sh : SharedState) (f : Frame) where
         record { leads = λ other. start_told m faults.Missing main (ap lack_of at) }
     main_suits t maker m main (Some implementations.Unsupported) at =
         record { leads = λ other. start_told m faults.Unsupported main (ap lack_of at) }
+    main_suits t maker m main (Some (implementations.Native native)) at =
+        record { leads = λ other. start_told m faults.Unsupported main (ap lack_of at) }
     main_suits t maker m main (Some (implementations.Code code)) at =
         need t maker _ (top f.operands) _ (λ argument on.
         need t maker _ (stored (replicate code.max_locals None) 0 argument) _ (λ locals so. went t maker _ _))
@@ -269,7 +272,7 @@ module _ (P : Tables) (entries : List ℕ) (sh : SharedState) (f : Frame) where
     start_leads : (t : ℕ) (maker : Maker) → Leads t maker (active_row P (activities.Start c) f)
     start_leads t maker =
         at_state t maker (IsEnd P entries sh f) sh _
-        (used t maker _ c (call_main P c f (main_in P c)) (call_suits t maker (main_in P c) refl))
+        (used t maker _ P c (call_main P c f (main_in P c)) (call_suits t maker (main_in P c) refl))
 
   -- ---- of each frame
 

@@ -103,67 +103,68 @@ out = record { moved = λ move. tt; printed = λ text next on. on }
 needed : {A : Type 0} (o : Option A) (go : A → Row) → ((a : A) → MakesLast (go a)) → MakesLast (needing o go)
 needed o go on = needed_any _ _ up o go on
 
-usable : (r : Row) → MakesLast r → (b : Bool) → MakesLast (if_usable r b)
-usable r on b = usable_any _ _ up r on b
+usable : (P : Tables) (r : Row) → MakesLast r → (b : Bool) → MakesLast (if_usable P r b)
+usable P r on b = usable_any _ _ up P r on b
 
 -- ---- monitors
 
-without_monitor_makes : (v : Value) → MakesLast (without_monitor v)
-without_monitor_makes values.Null = raised_any _ _ up builtins.NullPointerException
-without_monitor_makes (values.Text s) = tt
-without_monitor_makes values.Out = tt
-without_monitor_makes (values.OfClass c k) = tt
-without_monitor_makes (values.OfThread t k) = tt
-without_monitor_makes (values.Int n) = tt
-without_monitor_makes (values.Long n) = tt
+without_monitor_makes : (P : Tables) (v : Value) → MakesLast (without_monitor P v)
+without_monitor_makes P values.Null = raised_any _ _ up P builtins.NullPointerException
+without_monitor_makes P (values.Text s) = tt
+without_monitor_makes P values.Out = tt
+without_monitor_makes P (values.OfClass c k) = tt
+without_monitor_makes P (values.OfThread t k) = tt
+without_monitor_makes P (values.Int n) = tt
+without_monitor_makes P (values.Long n) = tt
 
-monitor_makes : (enter : Bool) (f : Frame) (next : Bool → Row) → ((b : Bool) → MakesLast (next b))
-    → MakesLast (use_monitor enter f next)
-monitor_makes enter f next on =
+monitor_makes : (P : Tables) (enter : Bool) (f : Frame) (next : Bool → Row) → ((b : Bool) → MakesLast (next b))
+    → MakesLast (use_monitor P enter f next)
+monitor_makes P enter f next on =
     needed (top_as Reference f.operands) _ (λ v.
-    named_any _ _ up (name_of v) (without_monitor v) (λ x. UseMonitor x enter next) (without_monitor_makes v) (λ x. on))
+    named_any _ _ up (name_of v) (without_monitor P v) (λ x. UseMonitor x enter next) (without_monitor_makes P v)
+    (λ x. on))
 
 entered_makes : (f : Frame) (b : Bool) → MakesLast (entered f b)
 entered_makes f true = tt
 entered_makes f false = tt
 
-left_makes : (f : Frame) (b : Bool) → MakesLast (left f b)
-left_makes f true = tt
-left_makes f false = raised_any _ _ up builtins.IllegalMonitorStateException
+left_makes : (P : Tables) (f : Frame) (b : Bool) → MakesLast (left P f b)
+left_makes P f true = tt
+left_makes P f false = raised_any _ _ up P builtins.IllegalMonitorStateException
 
 -- ---- the whole table
 
 object_makes_last : (P : Tables) (operation : ObjectOperation) (f : Frame) → MakesLast (object_row P operation f)
-object_makes_last P (objects.NewGiven c) f = λ b. usable _ (given_any _ _ up c _ f) b
+object_makes_last P (objects.NewGiven c) f = λ b. usable P _ (given_any _ _ up c _ f) b
 object_makes_last P (objects.NewBuiltIn b) f = built_in_any _ _ up b [] f
 object_makes_last P (objects.CheckCast class) f = cast_any _ _ up P class f
 object_makes_last P (objects.InstanceOf class) f = instance_any _ _ up P class f
 object_makes_last P objects.Throw f = throw_any _ _ up P f
 object_makes_last P (objects.GetField field) f = got_any _ _ up P field f
 object_makes_last P (objects.PutField field) f = put_any _ _ up changed P field f
-object_makes_last P objects.EnterMonitor f = monitor_makes true f (entered f) (entered_makes f)
-object_makes_last P objects.ExitMonitor f = monitor_makes false f (left f) (left_makes f)
+object_makes_last P objects.EnterMonitor f = monitor_makes P true f (entered f) (entered_makes f)
+object_makes_last P objects.ExitMonitor f = monitor_makes P false f (left P f) (left_makes P f)
 
 call_makes_last : (P : Tables) (operation : CallOperation) (f : Frame) → MakesLast (call_row P operation f)
-call_makes_last P (calls.Static k) f = λ b. usable _ (static_any _ _ up out P k f) b
+call_makes_last P (calls.Static k) f = λ b. usable P _ (static_any _ _ up out P k f) b
 call_makes_last P (calls.Instance k) f = instance_call_any _ _ up out P (changes P) k f
 call_makes_last P (calls.Print what line k) f = print_any _ _ up out P (changes P) what line k f
 call_makes_last P (calls.EndLine k) f = line_any _ _ up out P (changes P) k f
 
-local_makes : (r : Result Frame Trap) → MakesLast (local_row r)
-local_makes (Ok g) = tt
-local_makes (Err traps.Fault) = tt
-local_makes (Err (traps.Raise class)) = raised_any _ _ up class
+local_makes : (P : Tables) (r : Result Frame Trap) → MakesLast (local_row P r)
+local_makes P (Ok g) = tt
+local_makes P (Err traps.Fault) = tt
+local_makes P (Err (traps.Raise class)) = raised_any _ _ up P class
 
 return_makes : (kind : ReturnKind) (f : Frame) → MakesLast (return_row kind f)
 return_makes returns.Nothing f = tt
 return_makes (returns.Value kind) f = needed (top_stored kind f.operands) _ (λ v. tt)
 
 operation_makes : (P : Tables) (i : Operation) (f : Frame) → MakesLast (operation_row P i f)
-operation_makes P (Local i) f = local_makes (local_after i f)
+operation_makes P (Local i) f = local_makes P (local_after i f)
 operation_makes P (PushText s) f = pushed_any _ _ up (values.Text s) f
-operation_makes P (GetStatic c k) f = λ b. usable _ (λ v. pushed_any _ _ up v f) b
-operation_makes P (PutStatic kind c k) f = λ b. usable _ (needed (top_stored kind f.operands) _ (λ v. tt)) b
+operation_makes P (GetStatic c k) f = λ b. usable P _ (λ v. pushed_any _ _ up v f) b
+operation_makes P (PutStatic kind c k) f = λ b. usable P _ (needed (top_stored kind f.operands) _ (λ v. tt)) b
 operation_makes P GetOut f = pushed_any _ _ up values.Out f
 operation_makes P (OnArray operation) f = array_any _ _ up P (changes P) operation f
 operation_makes P (OnCall operation) f = call_makes_last P operation f
@@ -176,7 +177,7 @@ fetched_makes P None f = tt
 fetched_makes P (Some i) f = operation_makes P i f
 
 active_makes : (P : Tables) (a : Activity) (f : Frame) → MakesLast (active_row P a f)
-active_makes P (Start c) f = λ b. usable _ (main_any _ _ up out P c f (main_in P c)) b
+active_makes P (Start c) f = λ b. usable P _ (main_any _ _ up out P c f (main_in P c)) b
 active_makes P (InMethod c m) f = fetched_makes P (operation_at P c m f.place) f
 
 pub row_makes : (P : Tables) (f : Frame) → MakesLast (row P f)

@@ -56,6 +56,7 @@ body_length None = 0
 body_length (Some (implementations.Code code)) = length code.body
 body_length (Some implementations.Abstract) = 0
 body_length (Some implementations.Unsupported) = 0
+body_length (Some (implementations.Native native)) = 0
 
 body_of : (o : Option Implementation) (place : ℕ) (i : Instruction) → instruction_of o place ≡ Some i
     → place < body_length o
@@ -63,6 +64,7 @@ unfolding body_length
 body_of None place i at = cc
 body_of (Some implementations.Abstract) place i at = cc
 body_of (Some implementations.Unsupported) place i at = cc
+body_of (Some (implementations.Native native)) place i at = cc
 body_of (Some (implementations.Code code)) place i at = elim (cases_lt place (length code.body)) [
   | inl low ↦ low
   | inr past ↦ absurd (let clash : None ≡ Some i =
@@ -263,6 +265,7 @@ module _ (P : Tables) where
       by None = inr (λ is. cc)
       by (Some implementations.Abstract) = inr (λ is. cc)
       by (Some (implementations.Code code)) = inr (λ is. cc)
+      by (Some (implementations.Native native)) = inr (λ is. cc)
       by (Some implementations.Unsupported) = inl refl
 
   decided_calls_left_out : (o : Operation) → Decided (CallsLeftOut P o)

@@ -133,7 +133,7 @@ module _ (P : Tables) (types : Types) where
   element_keeps : (kind : ElementKind) (v : Value) (index : ℤ) (go : Name → ArrayType → ℕ → Row)
       → ((x : Name) (a : ArrayType) (slot : ℕ) → types x ≡ Some (classes.Array a) → kind_of_component a ≡ Some kind
       → Keeps (go x a slot))
-      → Keeps (at_element kind v index go)
+      → Keeps (at_element P kind v index go)
   element_keeps kind v index go on =
       on_object_keeps P types v _ (λ x known.
       trapped P types (served_type kind (types x)) _ (λ a is vs seen.
@@ -141,7 +141,7 @@ module _ (P : Tables) (types : Types) where
       let array = served_array kind (types x) a is in
       on x a slot array.0 array.1)))
 
-  held_keeps : (b : Bool) (row : Row) → Keeps row → Keeps (if_held b row)
+  held_keeps : (b : Bool) (row : Row) → Keeps row → Keeps (if_held P b row)
   held_keeps true row on = on
   held_keeps false row on = raised P types ArrayStoreException
 
@@ -149,18 +149,18 @@ module _ (P : Tables) (types : Types) where
   check_keeps a v row on = by (is_checked v)
     where
       asked : Row
-      asked = ask_class_of v (λ o. needing o (λ class. if_held (can_hold P a class) row))
+      asked = ask_class_of v (λ o. needing o (λ class. if_held P (can_hold P a class) row))
 
       by : (b : Bool) → Keeps (if b then asked else row)
       by true =
-          ask_class_keeps P types v (λ o. needing o (λ class. if_held (can_hold P a class) row)) (λ o.
-          needing_any Keeps (halted P types) o (λ class. if_held (can_hold P a class) row)
+          ask_class_keeps P types v (λ o. needing o (λ class. if_held P (can_hold P a class) row)) (λ o.
+          needing_any Keeps (halted P types) o (λ class. if_held P (can_hold P a class) row)
           (λ class is. held_keeps (can_hold P a class) row on))
       by false = on
 
   module _ (f : Frame) where
     make_keeps : (a : ArrayType) (kind : ElementKind) (v : Value) → HasObjects P (classes.Array a)
-        → kind_of_component a ≡ Some kind → suits (stored_as kind) v ≡ true → Keeps (make_array a v f)
+        → kind_of_component a ≡ Some kind → suits (stored_as kind) v ≡ true → Keeps (make_array P a v f)
     make_keeps a kind v has of h =
         needing_any Keeps (halted P types) (top_int f.operands) _ (λ count is.
         trapped P types (size_of count) _ (λ size at.
@@ -169,7 +169,7 @@ module _ (P : Tables) (types : Types) where
         (elements_filled (kind_of_component a) kind size v of h)
         (λ x. push_ends (value_of x) (with_operands f (rest f.operands)))))
 
-    length_keeps : Keeps (array_length f)
+    length_keeps : Keeps (array_length P f)
     length_keeps =
         needing_any Keeps (halted P types) (top_as Reference f.operands) _ (λ v is.
         on_object_keeps P types v _ (λ x known.
@@ -177,7 +177,7 @@ module _ (P : Tables) (types : Types) where
         needing_any Keeps (halted P types) (int_of (slot_in vs 0)) _ (λ n has.
         pushes P types (values.Int n) (with_operands f (rest f.operands))))))
 
-    load_keeps : (kind : ElementKind) → Keeps (load_element kind f)
+    load_keeps : (kind : ElementKind) → Keeps (load_element P kind f)
     load_keeps kind =
         needing_any Keeps (halted P types) (top_int f.operands) _ (λ index is.
         needing_any Keeps (halted P types) (top_as Reference (rest f.operands)) _ (λ v at.

@@ -26,21 +26,24 @@ use Rattle.machine.specs.Initializers.{is_method}
 use Rattle.machine.specs.RowParts.{halts, needing, drops}
 use Rattle.machine.specs.Calls.{parameters_at, has_arguments, receiver_under, reaches, reached}
 use Rattle.machine.specs.Calls.{runs, runs_chosen, is_out, called_on}
-use Rattle.machine.specs.Printing.{printed_text, ended, print_on}
+use Rattle.machine.specs.Printing.{printed_text, object_printed, ended, print_on, print_plain}
+use Rattle.classfile.specs.Printing.{printed_units}
 use Rattle.machine.specs.Table.{call_row}
 use Rattle.machine.proofs.TableLemmas.{needing_any, if_usable_any, unless_null_any, chosen_any}
 use Rattle.region_shape.proofs.KeepsShape.{Types, KeepsShape}
-use Rattle.region_shape.proofs.RowPartsLemmas.{halted, raised, either, ask_class_keeps}
+use Rattle.region_shape.proofs.RowPartsLemmas.{halted, raised, either, ask_class_keeps, on_name_keeps}
+use Rattle.region_shape.proofs.NativeRowsLemmas.{made_string_keeps, native_keeps}
 use Rattle.region_shape.proofs.MemberRowsLemmas.{member_keeps}
 
 module _ (P : Tables) (fits : IsFamily P.family) (within : AreParentsWithin P.family) (types : Types) (f : Frame) where
   abbrev Keeps : Row → Type 0
   Keeps row = KeepsShape P types row
 
-  reaches_keeps : (c m count : ℕ) (o : Option Implementation) → Keeps (reaches c m count f o)
+  reaches_keeps : (c m count : ℕ) (o : Option Implementation) → Keeps (reaches P c m count f o)
   reaches_keeps c m count None = tt
   reaches_keeps c m count (Some implementations.Abstract) = tt
   reaches_keeps c m count (Some implementations.Unsupported) = tt
+  reaches_keeps c m count (Some (implementations.Native native)) = native_keeps P types f native
   reaches_keeps c m count (Some (implementations.Code code)) =
       needing_any Keeps (halted P types) (passed (replicate code.max_locals None) 0 (taken count f.operands)) _
       (λ locals is. tt)
@@ -49,7 +52,7 @@ module _ (P : Tables) (fits : IsFamily P.family) (within : AreParentsWithin P.fa
   reached_keeps c m count = by (is_method m (initializer_in P c))
     where
       entered : Row
-      entered = reaches c m count f (implementation_at P c m)
+      entered = reaches P c m count f (implementation_at P c m)
 
       by : (b : Bool) → Keeps (cond b (halts Fault) entered)
       by true = tt
@@ -73,15 +76,20 @@ module _ (P : Tables) (fits : IsFamily P.family) (within : AreParentsWithin P.fa
   called_keeps : (k : InstanceCall) (count : ℕ) (v : Value) → Keeps (called_on P k count f v)
   called_keeps k count v =
       either P types (is_out v && not k.names_stream) (halts Fault) _ (λ is. tt)
-      (unless_null_any Keeps (halted P types) (raised P types) (runs_chosen P k.choice count f v) v
+      (unless_null_any Keeps (halted P types) P (raised P types) (runs_chosen P k.choice count f v) v
       (chosen_keeps k.choice count v))
 
   print_keeps : (text : List ℕ) (count : ℕ) (k : InstanceCall) (v : Value) → Keeps (print_on P text count k f v)
   print_keeps text count k v =
       either P types (is_out v) (PrintText text (drops count f)) _ (λ is. tt) (called_keeps k count v)
 
+  on_receiver_keeps : (text : List ℕ) (k : InstanceCall)
+      → Keeps (needing (top_as Reference (rest f.operands)) (print_on P text 2 k f))
+  on_receiver_keeps text k =
+      needing_any Keeps (halted P types) (top_as Reference (rest f.operands)) _ (λ r at. print_keeps text 2 k r)
+
   pub call_keeps : (o : CallOperation) → Keeps (call_row P o f)
-  call_keeps (Static k) = λ b. if_usable_any Keeps (halted P types) (raised P types) _ b
+  call_keeps (Static k) = λ b. if_usable_any Keeps (halted P types) P (raised P types) _ b
       (needing_any Keeps (halted P types) (parameters_at P k.caller k.descriptor) _ (λ kinds is.
       chosen_any Keeps (halted P types) (has_arguments kinds f.operands) _
       (reached_keeps k.class k.index (length kinds))))
@@ -91,8 +99,10 @@ module _ (P : Tables) (fits : IsFamily P.family) (within : AreParentsWithin P.fa
       called_keeps k (length kinds + 1) v))
   call_keeps (Print what line k) =
       needing_any Keeps (halted P types) (top f.operands) _ (λ v on_top.
-      needing_any Keeps (halted P types) (printed_text P what v) _ (λ text is.
-      needing_any Keeps (halted P types) (top_as Reference (rest f.operands)) _ (λ r at.
-      print_keeps (ended line text) 2 k r)))
+      on_name_keeps P types (object_printed P what v) (print_plain P what v line k f) _
+      (needing_any Keeps (halted P types) (printed_text P what v) _ (λ text is.
+      on_receiver_keeps (ended line text) k))
+      (λ x. made_string_keeps P types x _ (λ o.
+      needing_any Keeps (halted P types) o _ (λ units is. on_receiver_keeps (ended line (printed_units units)) k))))
   call_keeps (EndLine k) =
       needing_any Keeps (halted P types) (top_as Reference f.operands) _ (λ r at. print_keeps (10 ∷ []) 1 k r)

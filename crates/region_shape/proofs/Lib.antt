@@ -5,6 +5,7 @@ pub mod RowPartsLemmas
 pub mod ArrayRowsLemmas
 pub mod ObjectRowsLemmas
 pub mod MemberRowsLemmas
+pub mod NativeRowsLemmas
 pub mod CallRowsLemmas
 pub mod OperationLemmas
 pub mod TableRowsLemmas

@@ -29,7 +29,7 @@ use Rattle.machine.specs.declared.object_operation.ObjectOperation.TheVariants a
 use Rattle.machine.specs.Monitors.{without_monitor, use_monitor, entered, left}
 use Rattle.machine.specs.ObjectParts.{slot_in, look_into_slot}
 use Rattle.machine.specs.Objects.{new_object, is_of, cast_row, int_of_boolean, throw_of, is_holder, on_holder}
-use Rattle.machine.specs.Objects.{get_field, put_field, object_row}
+use Rattle.machine.specs.Objects.{is_blank, get_field, put_field, object_row}
 use Rattle.machine.specs.RowParts.{needing, goes_on, push, raises}
 use Rattle.machine.specs.StoredKinds.{top_stored, extra_places}
 use Rattle.machine.proofs.TableLemmas.{needing_any, needing_such, if_usable_any}
@@ -76,11 +76,11 @@ module _ (P : Tables) (types : Types) where
         (λ room. makes P types class slots (λ x. push (value_of x) f) has are (λ x. push_ends (value_of x) f))
         tt
 
-    cast_keeps : (fits : Bool) → Keeps (cast_row f fits)
-    cast_keeps fits = either P types fits (goes_on (advanced f)) (raises ClassCastException) (λ is. tt)
+    cast_keeps : (fits : Bool) → Keeps (cast_row P f fits)
+    cast_keeps fits = either P types fits (goes_on (advanced f)) (raises P ClassCastException) (λ is. tt)
         (raised P types ClassCastException)
 
-    throw_keeps : (x : Name) (o : Option ClassId) → Keeps (throw_of P x o)
+    pub throw_keeps : (x : Name) (o : Option ClassId) → Keeps (throw_of P x o)
     throw_keeps x None = tt
     throw_keeps x (Some c) =
         either P types (is_below P.family c (BuiltIn Throwable)) (Ends (Raise x c)) _ (λ is. tt) tt
@@ -95,9 +95,11 @@ module _ (P : Tables) (types : Types) where
     get_keeps field =
         needing_any Keeps (halted P types) (top_as Reference f.operands) _ (λ v at.
         either P types (nat_le (extra_places field.kind) f.operands.free) _ _
-        (λ room. holder_row_keeps field v got (λ x is vs seen.
+        (λ room. either P types (is_blank P field v) _ _
+        (λ blank. pushes P types (zero_of field.kind) (with_operands f (rest f.operands)))
+        (holder_row_keeps field v got (λ x is vs seen.
         needing_any Keeps (halted P types) (slot_in vs field.slot) _ (λ held has.
-        pushes P types held (with_operands f (rest f.operands)))))
+        pushes P types held (with_operands f (rest f.operands))))))
         tt)
       where
         got : Name → Row
@@ -116,7 +118,7 @@ module _ (P : Tables) (types : Types) where
         put : Value → Name → Row
         put held x = Change x field.slot held (goes_on (advanced (with_operands f (rest (rest f.operands)))))
 
-    without_monitor_keeps : (v : Value) → Keeps (without_monitor v)
+    without_monitor_keeps : (v : Value) → Keeps (without_monitor P v)
     without_monitor_keeps values.Null = raised P types NullPointerException
     without_monitor_keeps (values.Text s) = tt
     without_monitor_keeps values.Out = tt
@@ -126,30 +128,30 @@ module _ (P : Tables) (types : Types) where
     without_monitor_keeps (values.Long n) = tt
 
     monitor_keeps : (enter : Bool) (next : Bool → Row) → ((b : Bool) → Keeps (next b))
-        → Keeps (use_monitor enter f next)
+        → Keeps (use_monitor P enter f next)
     monitor_keeps enter next on =
         needing_any Keeps (halted P types) (top_as Reference f.operands) _ (λ v at.
-        on_name_keeps P types (name_of v) (without_monitor v) (λ x. UseMonitor x enter next) (without_monitor_keeps v)
+        on_name_keeps P types (name_of v) (without_monitor P v) (λ x. UseMonitor x enter next) (without_monitor_keeps v)
         (λ x b. on b))
 
     entered_keeps : (b : Bool) → Keeps (entered f b)
     entered_keeps true = tt
     entered_keeps false = tt
 
-    left_keeps : (b : Bool) → Keeps (left f b)
+    left_keeps : (b : Bool) → Keeps (left P f b)
     left_keeps true = tt
     left_keeps false = raised P types IllegalMonitorStateException
 
     pub object_keeps : IsFamily P.family → AreParentsWithin P.family → (o : ObjectOperation) → IsObjectTyped P o
         → Keeps (object_row P o f)
     object_keeps fits within (objects.NewGiven c) typed =
-        λ b. if_usable_any Keeps (halted P types) (raised P types) _ b
+        λ b. if_usable_any Keeps (halted P types) P (raised P types) _ b
         (new_keeps (Given c) (map zero_of (slots_of P.family c)) typed (zeros_suit P.family c))
     object_keeps fits within (objects.NewBuiltIn b) typed = new_keeps (BuiltIn b) [] typed refl
     object_keeps fits within (objects.CheckCast class) typed =
         needing_any Keeps (halted P types) (top_as Reference f.operands) _ (λ v at.
         either P types (is_null v) (goes_on (advanced f)) _ (λ is. tt)
-        (ask_class_keeps P types v (λ o. cast_row f (is_of P class o)) (λ o. cast_keeps (is_of P class o))))
+        (ask_class_keeps P types v (λ o. cast_row P f (is_of P class o)) (λ o. cast_keeps (is_of P class o))))
     object_keeps fits within (objects.InstanceOf class) typed =
         needing_any Keeps (halted P types) (top_as Reference f.operands) _ (λ v at.
         ask_class_keeps P types v (λ o. push (int_of_boolean (is_of P class o)) (with_operands f (rest f.operands)))
@@ -160,4 +162,4 @@ module _ (P : Tables) (types : Types) where
     object_keeps fits within (objects.GetField field) typed = get_keeps field
     object_keeps fits within (objects.PutField field) typed = put_keeps fits within field typed
     object_keeps fits within objects.EnterMonitor typed = monitor_keeps true (entered f) entered_keeps
-    object_keeps fits within objects.ExitMonitor typed = monitor_keeps false (left f) left_keeps
+    object_keeps fits within objects.ExitMonitor typed = monitor_keeps false (left P f) left_keeps

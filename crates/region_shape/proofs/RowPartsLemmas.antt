@@ -35,7 +35,7 @@ module _ (P : Tables) where
   pub halted : (types : Types) (kind : FaultKind) → KeepsShape P types (halts kind)
   halted types kind = tt
 
-  pub raised : (types : Types) (class : BuiltIn) → KeepsShape P types (raises class)
+  pub raised : (types : Types) (class : BuiltIn) → KeepsShape P types (raises P class)
   raised types class = inl (λ x. tt)
 
   pub pushes : (types : Types) (v : Value) (f : Frame) → KeepsShape P types (push v f)
@@ -50,7 +50,7 @@ module _ (P : Tables) (types : Types) where
   either false r q one other = other
 
   pub trapped : {A : Type 0} (r : Result A Trap) (go : A → Row) → ((a : A) → r ≡ Ok a → Keeps (go a))
-      → Keeps (unless_trapped r go)
+      → Keeps (unless_trapped P r go)
   trapped (Ok a) go on = on a refl
   trapped (Err traps.Fault) go on = tt
   trapped (Err (traps.Raise class)) go on = raised P types class
@@ -71,7 +71,7 @@ module _ (P : Tables) (types : Types) where
   ask_class_keeps v next on =
       on_name_keeps (name_of v) (next (class_of_nameless v)) _ (on (class_of_nameless v)) (λ x known. on (types x))
 
-  without_object_keeps : (v : Value) → Keeps (without_object v)
+  without_object_keeps : (v : Value) → Keeps (without_object P v)
   without_object_keeps values.Null = raised P types NullPointerException
   without_object_keeps (values.Text s) = tt
   without_object_keeps values.Out = tt
@@ -80,5 +80,5 @@ module _ (P : Tables) (types : Types) where
   without_object_keeps (values.Int n) = tt
   without_object_keeps (values.Long n) = tt
 
-  pub on_object_keeps : (v : Value) (go : Name → Row) → ((x : Name) → Keeps (go x)) → Keeps (with_object v go)
-  on_object_keeps v go on = on_name_keeps (name_of v) (without_object v) go (without_object_keeps v) on
+  pub on_object_keeps : (v : Value) (go : Name → Row) → ((x : Name) → Keeps (go x)) → Keeps (with_object P v go)
+  on_object_keeps v go on = on_name_keeps (name_of v) (without_object P v) go (without_object_keeps v) on

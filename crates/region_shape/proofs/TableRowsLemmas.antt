@@ -32,7 +32,7 @@ module _ (P : Tables) (linked : IsLinked P) (types : Types) where
   abbrev Keeps : Row → Type 0
   Keeps row = KeepsShape P types row
 
-  local_keeps : (r : Result Frame Trap) → Keeps (local_row r)
+  local_keeps : (r : Result Frame Trap) → Keeps (local_row P r)
   local_keeps (Ok g) = tt
   local_keeps (Err traps.Fault) = tt
   local_keeps (Err (traps.Raise class)) = raised P types class
@@ -46,9 +46,9 @@ module _ (P : Tables) (linked : IsLinked P) (types : Types) where
   operation_keeps (Local i) typed f = local_keeps (local_after i f)
   operation_keeps (PushText s) typed f = pushes P types (values.Text s) f
   operation_keeps (GetStatic c k) typed f =
-      λ b. if_usable_any Keeps (halted P types) (raised P types) _ b (λ v. pushes P types v f)
+      λ b. if_usable_any Keeps (halted P types) P (raised P types) _ b (λ v. pushes P types v f)
   operation_keeps (PutStatic kind c k) typed f =
-      λ b. if_usable_any Keeps (halted P types) (raised P types) _ b (
+      λ b. if_usable_any Keeps (halted P types) P (raised P types) _ b (
       needing_such Keeps (halted P types) (λ v. suits kind v ≡ true) (top_stored kind f.operands) _
       (stored_suits kind f.operands) (λ v h.
       (subst (λ o. SuitsField o v) (sym typed) h, tt)))
@@ -71,7 +71,7 @@ module _ (P : Tables) (linked : IsLinked P) (types : Types) where
 
   active_keeps : (a : Activity) (f : Frame) → Keeps (active_row P a f)
   active_keeps (Start c) f =
-      λ b. if_usable_any Keeps (halted P types) (raised P types) _ b (main_keeps c f (main_in P c))
+      λ b. if_usable_any Keeps (halted P types) P (raised P types) _ b (main_keeps c f (main_in P c))
   active_keeps (Method d m) f = fetched_keeps d m f (operation_at P d m f.place) refl
 
   pub row_keeps : (f : Frame) → Keeps (row P f)

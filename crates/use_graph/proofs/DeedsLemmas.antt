@@ -95,6 +95,7 @@ instruction_in None place = refl
 instruction_in (Some (implementations.Code code)) place = refl
 instruction_in (Some implementations.Abstract) place = refl
 instruction_in (Some implementations.Unsupported) place = refl
+instruction_in (Some (implementations.Native native)) place = refl
 
 pub pc_in : (o : Option Implementation) (place : ℕ)
     → pc_of o place ≡ option_map (λ (item : Placed). item.pc) (slice_get (body_in o) place)
@@ -102,6 +103,7 @@ pc_in None place = refl
 pc_in (Some (implementations.Code code)) place = refl
 pc_in (Some implementations.Abstract) place = refl
 pc_in (Some implementations.Unsupported) place = refl
+pc_in (Some (implementations.Native native)) place = refl
 
 module _ (P : Tables) (d k : ℕ) where
   abbrev body : List Placed

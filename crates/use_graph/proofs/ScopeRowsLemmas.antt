@@ -27,7 +27,7 @@ module _ (P : Tables) (scope : Scope) where
   pub halted : (kind : FaultKind) → Suits (halts kind)
   halted kind = tt
 
-  pub raised : (class : BuiltInClass) → Suits (raises class)
+  pub raised : (class : BuiltInClass) → Suits (raises P class)
   raised class x = tt
 
   pub need : {A : Type 0} (o : Option A) (go : A → Row) → ((a : A) → Suits (go a)) → Suits (needing o go)
@@ -62,7 +62,7 @@ module _ (P : Tables) (scope : Scope) where
 
   -- ---- monitors
 
-  without_monitor_in : (v : Value) → Suits (without_monitor v)
+  without_monitor_in : (v : Value) → Suits (without_monitor P v)
   without_monitor_in values.Null = raised builtins.NullPointerException
   without_monitor_in (values.Text s) = tt
   without_monitor_in values.Out = tt
@@ -72,16 +72,16 @@ module _ (P : Tables) (scope : Scope) where
   without_monitor_in (values.Long n) = tt
 
   pub monitor_in : (enter : Bool) (f : Frame) (next : Bool → Row) → scope.locks ≡ true
-      → ((b : Bool) → Suits (next b)) → Suits (use_monitor enter f next)
+      → ((b : Bool) → Suits (next b)) → Suits (use_monitor P enter f next)
   monitor_in enter f next locks on =
       need (top_as Reference f.operands) _ (λ v.
-      named_any _ _ up (name_of v) (without_monitor v) (λ x. UseMonitor x enter next) (without_monitor_in v)
+      named_any _ _ up (name_of v) (without_monitor P v) (λ x. UseMonitor x enter next) (without_monitor_in v)
       (λ x. (locks, on)))
 
   pub entered_in : (f : Frame) (b : Bool) → Suits (entered f b)
   entered_in f true = tt
   entered_in f false = tt
 
-  pub left_in : (f : Frame) (b : Bool) → Suits (left f b)
+  pub left_in : (f : Frame) (b : Bool) → Suits (left P f b)
   left_in f true = tt
   left_in f false = raised builtins.IllegalMonitorStateException

@@ -45,7 +45,8 @@ use Rattle.machine.specs.Monitors.{entered, left}
 use Rattle.machine.specs.Objects.{object_row}
 use Rattle.machine.specs.Calls.{parameters_at, has_arguments, receiver_under, reaches, reached, call_with, runs}
 use Rattle.machine.specs.Calls.{runs_chosen, is_out, unless_null, called_on}
-use Rattle.machine.specs.Printing.{printed_text, ended, print_on}
+use Rattle.machine.specs.Printing.{printed_text, object_printed, ended, print_on, print_made, print_plain}
+use Rattle.classfile.specs.Printing.{printed_units}
 use Rattle.machine.specs.Operations.{Operation, Local, PushText, GetStatic, PutStatic, GetOut, OnArray, OnCall, Return}
 use Rattle.machine.specs.Operations.{OnObject, Refused, operation_at}
 use Rattle.machine.specs.Failures.{fails_by}
@@ -55,7 +56,8 @@ use Rattle.machine.proofs.TableLemmas.{if_usable_any, unless_null_any, chosen_an
 use Rattle.use_graph.specs.Code.{chosen_callee, found_callee}
 use Rattle.use_graph.specs.Scopes.{if_declared, activity_of, called_by, scope_of, scope_if, start_scope, bounds_of}
 use Rattle.machine.proofs.AnyRowsLemmas.{class_any, array_any, given_any, built_in_any, cast_any, instance_any}
-use Rattle.machine.proofs.AnyRowsLemmas.{throw_any, got_any, put_any, member_any}
+use Rattle.machine.proofs.AnyRowsLemmas.{throw_any, got_any, put_any, member_any, named_any, native_any}
+use Rattle.machine.proofs.AnyRowsLemmas.{made_string_any}
 use Rattle.use_graph.proofs.ScopeRowsLemmas.{halted, raised, either, need, push_in, up, changed, changes, monitor_in}
 use Rattle.use_graph.proofs.ScopeRowsLemmas.{entered_in, left_in}
 
@@ -74,10 +76,11 @@ module _ (P : Tables) (scope : Scope) (f : Frame) where
   Suits r = IsInScope (program_of P) scope r
 
   reaches_in : (c m count : ℕ) (o : Option Implementation) → (is_some o ≡ true → MayCall scope (Method c m))
-      → Suits (reaches c m count f o)
+      → Suits (reaches P c m count f o)
   reaches_in c m count None may = tt
   reaches_in c m count (Some implementations.Abstract) may = tt
   reaches_in c m count (Some implementations.Unsupported) may = tt
+  reaches_in c m count (Some (implementations.Native native)) may = native_any _ _ (up P scope) P native f
   reaches_in c m count (Some (implementations.Code code)) may =
       need P scope (passed _ 0 (taken count f.operands)) _ (λ locals. may refl)
 
@@ -88,7 +91,7 @@ module _ (P : Tables) (scope : Scope) (f : Frame) where
   reached_in : (c m count : ℕ) → MayReach c m → Suits (reached P c m count f)
   reached_in c m count may =
       either P scope (is_method m (initializer_in P c)) (halts faults.Fault)
-      (reaches c m count f (implementation_at P c m))
+      (reaches P c m count f (implementation_at P c m))
       tt (reaches_in c m count (implementation_at P c m) may)
 
   runs_in : (count : ℕ) (v : Value) (o : Option ResolvedMethod)
@@ -116,8 +119,8 @@ module _ (P : Tables) (scope : Scope) (f : Frame) where
   called_in : (k : InstanceCall) (count : ℕ) (v : Value) → Covers k.choice → Suits (called_on P k count f v)
   called_in k count v covers =
       either P scope (is_out v && not k.names_stream) (halts faults.Fault)
-      (unless_null (runs_chosen P k.choice count f v) v) tt
-      (unless_null_any Suits (halted P scope) (raised P scope) (runs_chosen P k.choice count f v) v
+      (unless_null P (runs_chosen P k.choice count f v) v) tt
+      (unless_null_any Suits (halted P scope) P (raised P scope) (runs_chosen P k.choice count f v) v
       (chosen_in k.choice count v covers))
 
   print_in : (text : List ℕ) (count : ℕ) (k : InstanceCall) (v : Value) → scope.prints ≡ true → Covers k.choice
@@ -131,7 +134,7 @@ call_in : (P : Tables) (f : Frame) (call : CallOperation)
 call_in P f (calls.Static k) =
     let scope = scope_of P (OnCall (calls.Static k)) in (
       refl,
-      λ b. if_usable_any (Suits P scope f) (halted P scope) (raised P scope) _ b
+      λ b. if_usable_any (Suits P scope f) (halted P scope) P (raised P scope) _ b
           (need P scope (parameters_at P k.caller k.descriptor) (call_with P k f) (λ kinds.
           chosen_any (Suits P scope f) (halted P scope) (has_arguments kinds f.operands)
           (reached P k.class k.index (length kinds) f)
@@ -145,9 +148,14 @@ call_in P f (calls.Instance k) =
     called_in P scope f k (length kinds + 1) v (λ class a is. (class, is))))
 call_in P f (calls.Print what line k) =
     let scope = scope_of P (OnCall (calls.Print what line k)) in
-    need P scope (top f.operands) _ (λ v. need P scope (printed_text P what v) _ (λ text.
-    need P scope (top_as Reference (rest f.operands)) (print_on P (ended line text) 2 k f) (λ r.
-    print_in P scope f (ended line text) 2 k r refl (λ class a is. (class, is)))))
+    let received : (text : List ℕ) → Suits P scope f (needing (top_as Reference (rest f.operands)) (print_on P text 2 k f)) =
+    λ text. need P scope (top_as Reference (rest f.operands)) (print_on P text 2 k f) (λ r.
+    print_in P scope f text 2 k r refl (λ class a is. (class, is))) in
+    need P scope (top f.operands) _ (λ v.
+    named_any _ _ (up P scope) (object_printed P what v) (print_plain P what v line k f) (λ x. print_made P x line k f)
+    (need P scope (printed_text P what v) _ (λ text. received (ended line text)))
+    (λ x. made_string_any _ _ (up P scope) P x _ (λ o.
+    need P scope o _ (λ units. received (ended line (printed_units units))))))
 call_in P f (calls.EndLine k) =
     let scope = scope_of P (OnCall (calls.EndLine k)) in
     need P scope (top_as Reference f.operands) (print_on P (10 ∷ []) 1 k f) (λ r.
@@ -160,7 +168,7 @@ object_in : (P : Tables) (f : Frame) (o : ObjectOperation)
 object_in P f (objects.NewGiven c) =
     let scope = scope_of P (OnObject (objects.NewGiven c)) in (
       refl,
-      λ b. if_usable_any (Suits P scope f) (halted P scope) (raised P scope) _ b
+      λ b. if_usable_any (Suits P scope f) (halted P scope) P (raised P scope) _ b
           (given_any _ _ (up P scope) c (map zero_of (slots_of P.family c)) f),
     )
 object_in P f (objects.NewBuiltIn b) =
@@ -180,9 +188,9 @@ object_in P f objects.EnterMonitor =
     monitor_in P scope true f (entered f) refl (entered_in P scope f)
 object_in P f objects.ExitMonitor =
     let scope = scope_of P (OnObject objects.ExitMonitor) in
-    monitor_in P scope false f (left f) refl (left_in P scope f)
+    monitor_in P scope false f (left P f) refl (left_in P scope f)
 
-local_in : (P : Tables) (scope : Scope) (r : Result Frame Trap) → IsInScope (program_of P) scope (local_row r)
+local_in : (P : Tables) (scope : Scope) (r : Result Frame Trap) → IsInScope (program_of P) scope (local_row P r)
 local_in P scope (Ok g) = tt
 local_in P scope (Err traps.Fault) = tt
 local_in P scope (Err (traps.Raise class)) = raised P scope class
@@ -194,13 +202,13 @@ operation_in P f (PushText s) = push_in P (scope_of P (PushText s)) (values.Text
 operation_in P f (GetStatic c k) =
     let scope = scope_of P (GetStatic c k) in (
       refl,
-      λ b. if_usable_any (Suits P scope f) (halted P scope) (raised P scope) _ b
+      λ b. if_usable_any (Suits P scope f) (halted P scope) P (raised P scope) _ b
           (refl, λ plain. rw plain refl, λ v. push_in P scope v f),
     )
 operation_in P f (PutStatic kind c k) =
     let scope = scope_of P (PutStatic kind c k) in (
       refl,
-      λ b. if_usable_any (Suits P scope f) (halted P scope) (raised P scope) _ b
+      λ b. if_usable_any (Suits P scope f) (halted P scope) P (raised P scope) _ b
           (need P scope (top_stored kind f.operands) _ (λ v. (refl, refl, tt))),
     )
 operation_in P f GetOut = push_in P (scope_of P GetOut) values.Out f
@@ -227,7 +235,7 @@ active_in : (P : Tables) (f : Frame) (a : Activity)
 active_in P f (Start c) =
     let scope = start_scope P c in (
       refl,
-      λ b. if_usable_any (Suits P scope f) (halted P scope) (raised P scope) _ b
+      λ b. if_usable_any (Suits P scope f) (halted P scope) P (raised P scope) _ b
           (main_in_scope P c f (main_in P c) refl),
     )
 active_in P f (Method d k) = by_operation (operation_at P d k f.place)
@@ -245,7 +253,7 @@ failing_in : (P : Tables) (x : Name) (o : Option ClassId)
 failing_in P x o =
     need P nothing o (fails_by P x) (λ class.
     either P nothing (is_below P.family class (BuiltIn builtins.Error)) (Ends (Raise x class))
-    (raises builtins.ExceptionInInitializerError) tt (raised P nothing builtins.ExceptionInInitializerError))
+    (raises P builtins.ExceptionInInitializerError) tt (raised P nothing builtins.ExceptionInInitializerError))
 
 pub table_is_bounded_lem : (P : Tables) → IsBounded (program_of P) (bounds_of P)
 table_is_bounded_lem P = record {

@@ -21,5 +21,10 @@ returns-in-Some-Unsupported c =
     no_site c.args.program.now c.args.caller c.args.callee (Some implementations.Unsupported)
     (ap (λ (x : Implementation). Some x) (sym c.in-Some-Unsupported.field-0-is) ∙ c.in-Some-Unsupported.ensures) refl
 
+pub returns-in-Some-Native : goal.returns-in-Some-Native
+returns-in-Some-Native c =
+    no_site c.args.program.now c.args.caller c.args.callee (Some (implementations.Native c.in-Some-Native.field-0))
+    (ap (λ (x : Implementation). Some x) (sym c.in-Some-Native.field-0-is) ∙ c.in-Some-Native.ensures) refl
+
 pub returns-in-None : goal.returns-in-None
 returns-in-None c = no_site c.args.program.now c.args.caller c.args.callee None c.in-None.ensures refl
