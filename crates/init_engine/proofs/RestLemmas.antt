@@ -49,7 +49,7 @@ use Rattle.std.proofs.lemmas.Bool.{cases_lt}
 module _ (P : Tables) (t c : ℕ) (sh : SharedState) (under : List Frame) (ls : List Level) where
   by_error : (x : Name) (class : ClassId) (b : Bool)
       → is_some (fails (program_of P) c under ls
-      (run_row t (makers.Class c) sh (cond b (Ends (Raise x class)) (raises ExceptionInInitializerError)))) ≡ true
+      (run_row t (makers.Class c) sh (cond b (Ends (Raise x class)) (raises P ExceptionInInitializerError)))) ≡ true
   by_error x class true = refl
   by_error x class false = refl
 
