@@ -423,16 +423,11 @@ module _ (family : Family) (fits : IsFamily family) (within : AreParentsWithin f
         → (implementation : Implementation) × IsImplementation family f m implementation
     implementation_for m among = by (is_abstract_method f m) (is_left_out f m) (code_among m.attributes) refl refl refl
       where
-        left_out_or : (n : Option Native) → native_of family f m ≡ n → is_left_out f m ≡ true
-            → (implementation : Implementation) × IsImplementation family f m implementation
-        left_out_or None none out = (implementations.Unsupported, IsImplementation.left_out out none)
-        left_out_or (Some native) is out = (implementations.Native native, IsImplementation.native out is)
-
         by : (a b : Bool) (o : Option CodeAttribute) → is_abstract_method f m ≡ a → is_left_out f m ≡ b
             → code_among m.attributes ≡ o
             → (implementation : Implementation) × IsImplementation family f m implementation
         by true b o is out has = (implementations.Abstract, IsImplementation.abstract is)
-        by false true o is out has = left_out_or (native_of family f m) refl out
+        by false true o is out has = (native_or_left_out (native_of family f m), IsImplementation.left_out out)
         by false false None is out has = (implementations.Abstract, IsImplementation.no_code is out has)
         by false false (Some attribute) is out has =
             let (code, made) = code_for m attribute (body_for m among attribute has) in

@@ -103,13 +103,14 @@ pub record IsMethodCode (family : Family) (f : ClassFile) (m : Member) (attribut
   pub handlers : AllZip (IsHandler family f) attribute.exceptions code.handlers
   pub body : IsBody attribute.code code.body
 
+abbrev pub native_or_left_out : Option Native → Implementation
+native_or_left_out None = implementations.Unsupported
+native_or_left_out (Some native) = implementations.Native native
+
 -- How a method is implemented.
 pub data IsImplementation (family : Family) (f : ClassFile) (m : Member) : Implementation → Type 0 where
   abstract : is_abstract_method f m ≡ true → IsImplementation family f m implementations.Abstract
-  left_out : is_left_out f m ≡ true → native_of family f m ≡ None
-      → IsImplementation family f m implementations.Unsupported
-  native : {n : Native} → is_left_out f m ≡ true → native_of family f m ≡ Some n
-      → IsImplementation family f m (implementations.Native n)
+  left_out : is_left_out f m ≡ true → IsImplementation family f m (native_or_left_out (native_of family f m))
   no_code : is_abstract_method f m ≡ false → is_left_out f m ≡ false → code_among m.attributes ≡ None
       → IsImplementation family f m implementations.Abstract
   code : {attribute : CodeAttribute} {code : MethodCode} → is_abstract_method f m ≡ false → is_left_out f m ≡ false

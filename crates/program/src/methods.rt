@@ -1,20 +1,19 @@
 //! How the methods of a class are implemented.
 
-ghost use Rattle.std.specs.Prelude.{◌≡◌, IfOk, true};
+ghost use Rattle.std.specs.Prelude.{◌≡◌, IfOk};
 ghost use Rattle.std.specs.List.{AllZip, position_from};
 ghost use Rattle.loading.specs.Names.{text_at};
 ghost use Rattle.program.specs.Programs.{is_initializer, initializer_of, is_main, main_of};
-ghost use Rattle.program.specs.Programs.{is_abstract_method, is_left_out};
+ghost use Rattle.program.specs.Programs.{is_abstract_method, is_left_out, native_or_left_out};
 ghost use Rattle.program.specs.Programs.{IsMethodCode, IsImplementation};
 ghost use Rattle.program.specs.steps.ResolvedConstants.{HoldsClasses};
 
 use crate::class::{Implementation, MethodCode, Methods};
 use crate::linked_file::LinkedFile;
-use crate::native::native_of;
+use crate::native::{Native, native_of};
 use bytecode::decode;
 use classfile::flags::{ABSTRACT, NATIVE, STATIC, SYNCHRONIZED, has_flag};
 use classfile::{ClassFile, Member};
-use loading::family::Family;
 use loading::names::text_at;
 use std::alloc::{AllocError, Global};
 
@@ -103,11 +102,10 @@ fn code_of(
 }
 
 /// How a native or synchronized method is implemented: the machine runs the natives of a library.
-fn native_or_left_out(family: &Family, file: &ClassFile, method: &Member) -> Implementation
-    requires { is_left_out file.now method.now ≡ true }
-    ensures { IsImplementation family.now file.now method.now result }
+fn native_or_left_out(native: Option<Native>) -> Implementation
+    ensures { result ≡ native_or_left_out native }
 {
-    match native_of(family, file, method) {
+    match native {
         Some(native) => Implementation::Native(native),
         None => Implementation::Unsupported,
     }
@@ -125,7 +123,8 @@ fn implementation_of(
         return Ok(Implementation::Abstract);
     }
     if is_left_out(linked.file, method) {
-        return Ok(native_or_left_out(linked.family, linked.file, method));
+        let native = native_of(linked.family, linked.file, method);
+        return Ok(native_or_left_out(native));
     }
     let Some(code) = method.code() else {
         return Ok(Implementation::Abstract);
