@@ -37,6 +37,7 @@ use Rattle.hierarchy.proofs.TextsLemmas.{distinct_push}
 use Rattle.program.specs.declared.class.Class.{Class}
 use Rattle.program.specs.declared.class.Implementation.{Implementation}
 use Rattle.program.specs.declared.class.Implementation.TheVariants as implementations
+use Rattle.program.specs.Natives.{native_of}
 use Rattle.program.specs.declared.class.MethodCode.{MethodCode}
 use Rattle.program.specs.declared.handler.Catches.{Catches}
 use Rattle.program.specs.declared.handler.Catches.TheVariants as catches
@@ -50,7 +51,7 @@ use Rattle.program.specs.declared.signature.Signature.{Signature}
 use Rattle.program.specs.Fields.{statics_of}
 use Rattle.program.specs.Handlers.{IsCaught, IsHandler}
 use Rattle.program.specs.Programs.{AreClasses, HasOwnStrings, IsImplementation, IsLinkedClass, IsMethodCode, IsProgram}
-use Rattle.program.specs.Programs.{initializer_of, is_abstract_method, is_left_out, main_of, static_field}
+use Rattle.program.specs.Programs.{initializer_of, is_abstract_method, is_left_out, main_of, native_or_left_out, static_field}
 use Rattle.program.specs.References.{FieldOfConstant, FindsField, FindsMethod, MethodOfConstant}
 use Rattle.program.specs.References.{ResolvesMethodAt, is_interface_id, key_at, wants_interface}
 use Rattle.program.specs.RuntimePool.{IsMethodReference, IsRuntimeConstant, IsRuntimePool, descriptor_index_at}

@@ -8,7 +8,6 @@ pub mod PlainRowsLemmas
 pub mod WaitingLemmas
 pub mod FailuresLemmas
 pub mod AccessesLemmas
-pub mod HandlersLemmas
 pub mod LinkedLemmas
 pub mod TableLemmas
 pub mod ArrayLawLemmas

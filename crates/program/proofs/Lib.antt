@@ -27,4 +27,5 @@ pub mod OneRuntimePoolLemmas
 pub mod OneImplementationLemmas
 pub mod OneProgramLemmas
 pub mod ZerosLemmas
+pub mod FirstFoundLemmas
 pub mod FramesLemmas

@@ -2,7 +2,7 @@ use Rattle.std.proofs.Common.{sym, ◌∙◌, arith}
 use Rattle.program.specs.declared.handler.Handler.{Handler}
 use Rattle.program.specs.declared.handler.Catches.TheVariants.{Anything}
 use Rattle.machine.specs.Handlers.{handles}
-use Rattle.machine.proofs.HandlersLemmas.{found_first, found_none}
+use Rattle.program.proofs.FirstFoundLemmas.{found_first, found_none}
 use Rattle.machine.proofs.handlers.first_handler.Goals as goal
 
 abbrev blank : Handler

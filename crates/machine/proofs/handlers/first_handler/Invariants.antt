@@ -1,6 +1,6 @@
 use Rattle.program.specs.declared.handler.Catches.TheVariants.{Anything}
 use Rattle.machine.specs.Handlers.{handles}
-use Rattle.machine.proofs.HandlersLemmas.{Fail}
+use Rattle.program.proofs.FirstFoundLemmas.{Fail}
 use Rattle.machine.proofs.handlers.first_handler.Given as goal
 
 abbrev pub invariant-loop-handler : goal.invariant-loop-handler
