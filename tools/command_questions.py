@@ -9,7 +9,8 @@ Before ` && ` may stand commands that are done first; where one of these has ano
 stream, that is the answer. After the words may stand ` | ` and `begins LENGTH`, for that many bytes of the answer; `has
 TEXT`, for the status and which of the two has the text where the other has nothing; `output ROOM` or `errors ROOM`, for
 what is answered when that stream fails after so many bytes; `file NAME`, for the status and what a file holds then, and
-`file NAME ROOM` for that where standard output fails after so many bytes; `same NAME NAME`, for the status and whether
+`file NAME ROOM` for that where standard output fails after so many bytes; `holds NAME TEXT`, for the status and whether
+a file has the text in it then; `same NAME NAME`, for the status and whether
 two files hold the same bytes then.
 """
 import functools
@@ -70,6 +71,9 @@ def answered(asked: Asked, commands: str) -> str:
     if verb == "file":
         content = held(name)
         return f"{answer.status} {'no file' if content is None else f'[{text_of(content)}]'}"
+    if verb == "holds":
+        content = held(name)
+        return f"{answer.status} {'no file' if content is None else 'holds' if other in text_of(content) else 'lacks'}"
     if verb == "same":
         return f"{answer.status} {'same' if held(name) is not None and held(name) == held(other) else 'others'}"
     if verb == "has":

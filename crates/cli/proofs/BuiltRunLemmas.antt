@@ -18,7 +18,7 @@ built_images old new words bytes list I w made known begun =
     let asked = words.building in
     let told : made.bytes ≡ bytes =
     known_bytes (new words.image.now) bytes made.bytes known
-    (image_written old new words.image.now words.report made.bytes _ made.written) in
+    (image_written made.between new words.image.now words.report made.bytes _ made.written) in
     let same : made.bytes ≡ begun.bytes =
     told ∙ sym (known_bytes (new words.image.now) bytes begun.bytes known begun.held) in
     record {

@@ -1,24 +1,28 @@
 -- What a command leaves of files that is refused, or that fails.
-use Rattle.std.proofs.Common.{◌≡◌, ◌≢◌, ◌∙◌, ◌⊎◌, inl, inr, ℕ, List, Option, Some, None, Result, Ok, Err, IfErr, IfSome}
+use Rattle.std.proofs.Common.{◌≡◌, ◌≢◌, ◌∙◌, ◌⊎◌, inl, inr, ℕ, List, Option, Some, None, Result, Ok, Err, IfErr, IfSome, OnOk}
 use Rattle.std.proofs.Common.{refl, sym, ap, subst, true, is_some}
 use Rattle.std.specs.Borrow.{Bor}
+use Rattle.std.specs.Result.{IsErrAnd}
 use Rattle.building.specs.declared.build.BuildOptions.{BuildOptions}
 use Rattle.semantics.specs.Worlds.{World}
 use Rattle.program.specs.Tables.{Tables}
+use Rattle.report.specs.Texts.{report_text}
 use Rattle.init_engine.specs.Schedules.{schedule_of}
 use Rattle.command_line.specs.Requests.{texts}
 use Rattle.command_line.specs.declared.request.Build.{Build}
 use Rattle.command_line.specs.declared.request.Renew.{Renew}
+use Rattle.command_line.specs.declared.request.Report.{Report}
 use Rattle.command_line.specs.declared.request.Request.{Request}
 use Rattle.command_line.specs.declared.request.Request.TheVariants as requests
 use Rattle.command_line.specs.declared.request.Run.{Run}
 use Rattle.cli.specs.Begins.{IsBegunFromFile}
 use Rattle.cli.specs.Builds.{IsBuildOfClassFiles}
 use Rattle.cli.specs.CommandFault.{refusal_status}
-use Rattle.cli.specs.Done.{IsWritten, IsWrittenTo}
+use Rattle.cli.specs.Done.{AreWritten, IsWritten, IsWrittenTo}
 use Rattle.cli.specs.Files.{AreBytesOf, AreTextsOf, Contents, OthersStay}
 use Rattle.cli.specs.Journaled.{IsJournaled}
-use Rattle.cli.specs.Left.{HasJournal, HasLeft, OnlyOutputsChange, OthersStayIf}
+use Rattle.cli.specs.Left.{HasJournal, HasLeft, IsToldAlone, OnlyOutputsChange, OthersStayIf}
+use Rattle.cli.specs.Pages.{IsPagePut}
 use Rattle.cli.specs.Requested.{options_of}
 use Rattle.cli.specs.Status.{IsOver}
 use Rattle.cli.specs.declared.build_texts.BuildTexts.{BuildTexts}
@@ -26,9 +30,10 @@ use Rattle.cli.specs.declared.by_threads.Journaled.{Journaled}
 use Rattle.cli.specs.declared.fault.CommandFault.{CommandFault}
 use Rattle.cli.specs.declared.status.Status.{Status}
 use Rattle.cli.specs.declared.status.Status.TheVariants.{Done, Refused, Words, Failed, Stuck, Limit, Ended}
-use Rattle.cli.proofs.OutputLemmas.{both_written}
-use Rattle.cli.specs.steps.BuildTexts.{AreTextsOfBuild}
-use Rattle.cli.specs.steps.Left.{LeavesFile, LeavesJournal, LeavesRun, LeavesTexts, status_of_done}
+use Rattle.cli.proofs.OutputLemmas.{both_written, has_page}
+use Rattle.cli.specs.steps.BuildTexts.{AreAllWritten, AreTextsOfBuild, wanted_of}
+use Rattle.cli.specs.steps.Left.{LeavesAll, LeavesFile, LeavesIf, LeavesJournal, LeavesRun, LeavesTexts}
+use Rattle.cli.specs.steps.Left.{status_of_done}
 
 -- ---- files that are as they were
 
@@ -39,13 +44,13 @@ others_unchanged old new (Some name) same = λ other beside. ap (λ (holds : Con
 outputs_unchanged : (old new : Contents) (request : Request) → new ≡ old → OnlyOutputsChange old new request
 outputs_unchanged old new (requests.Audit words) same = same
 outputs_unchanged old new (requests.Build words) same =
-    λ other beside also. ap (λ (holds : Contents). holds other) same
+    λ other beside also page. ap (λ (holds : Contents). holds other) same
 outputs_unchanged old new (requests.Explain words) same = same
 outputs_unchanged old new (requests.Inspect words) same = same
 outputs_unchanged old new (requests.Lazy words) same = same
 outputs_unchanged old new (requests.Renew words) same = λ other beside. ap (λ (holds : Contents). holds other) same
 outputs_unchanged old new (requests.Replay words) same = same
-outputs_unchanged old new (requests.Report words) same = same
+outputs_unchanged old new (requests.Report words) same = others_unchanged old new words.page same
 outputs_unchanged old new (requests.Run words) same = others_unchanged old new words.journal same
 
 pub unchanged : (old new : Contents) (request : Request) (status : Status) → new ≡ old → HasLeft old new request status
@@ -146,29 +151,93 @@ image_refused_after old mid new image report text (Ok it) told before left = tt
 image_refused_after old mid new image report text (Err refusal) told before left =
     both_left old mid new image report text (refusal_status refusal) told before left
 
+-- ---- a page, and the texts of a build behind it
+
+page_left : (old new : Contents) (words : Build) (made : BuildTexts) (page : Option (Bor (List ℕ))) (status : Status)
+    → words.page ≡ page → LeavesIf old new page status → LeavesAll old new words made status
+page_left old new words made None status is left = absurd left
+page_left old new words made (Some name) Done is left = absurd left
+page_left old new words made (Some name) Refused is left = inl left
+page_left old new words made (Some name) Words is left = absurd left
+page_left old new words made (Some name) Failed is left =
+    λ other image report page. left other
+    (subst (λ (p : Option (Bor (List ℕ))). IfSome p (λ (n : Bor (List ℕ)). other ≢ n.now)) is page)
+page_left old new words made (Some name) Stuck is left = absurd left
+page_left old new words made (Some name) Limit is left = absurd left
+page_left old new words made (Some name) Ended is left = absurd left
+
+-- the page's file fails
+pub page_refused : (old new : Contents) (words : Build) (made : BuildTexts) (status : Status)
+    → LeavesIf old new words.page status → LeavesAll old new words made status
+page_refused old new words made status left = page_left old new words made words.page status refl left
+
+beside_page : (old new : Contents) (page : Option (Bor (List ℕ))) (text other : List ℕ)
+    → IsPagePut old new page text → IfSome page (λ (name : Bor (List ℕ)). other ≢ name.now) → new other ≡ old other
+beside_page old new None text other put beside = ap (λ (holds : Contents). holds other) put
+beside_page old new (Some name) text other put beside = put.1 other beside
+
+texts_left : (old mid new : Contents) (words : Build) (made : BuildTexts) (status : Status)
+    → IsPagePut old mid words.page made.page.items
+    → LeavesTexts mid new words.image.now words.report made.report.items status → LeavesAll old new words made status
+texts_left old mid new words made Done put left = absurd left
+texts_left old mid new words made Refused put left = inr (mid, (put, left))
+texts_left old mid new words made Words put left = absurd left
+texts_left old mid new words made Failed put left =
+    λ other image report page. left other image report
+    ∙ beside_page old mid words.page made.page.items other put page
+texts_left old mid new words made Stuck put left = absurd left
+texts_left old mid new words made Limit put left = absurd left
+texts_left old mid new words made Ended put left = absurd left
+
+-- another file fails after it
+pub after_page : {T : Type 0} (old mid new : Contents) (words : Build) (made : BuildTexts)
+    (done : Result T CommandFault) → IsPagePut old mid words.page made.page.items
+    → IfErr done (λ refusal.
+    LeavesTexts mid new words.image.now words.report made.report.items (refusal_status refusal))
+    → IfErr done (λ refusal. LeavesAll old new words made (refusal_status refusal))
+after_page old mid new words made (Ok it) put left = tt
+after_page old mid new words made (Err refusal) put left =
+    texts_left old mid new words made (refusal_status refusal) put left
+
+-- all are written
+pub all_written : {T : Type 0} (old mid new : Contents) (words : Build) (made : BuildTexts)
+    (done : Result T CommandFault) → IsPagePut old mid words.page made.page.items
+    → OnOk done (AreWritten mid new words.image.now words.report made.image.items made.report.items)
+    → OnOk done (AreAllWritten old new words made)
+all_written old mid new words made (Ok it) put written = record { between = mid; page = put; written = written }
+all_written old mid new words made (Err refusal) put written = tt
+
 module _ (old new : Contents) (words : Build) (files : List (List ℕ)) (options : BuildOptions) (made : BuildTexts)
     (held : AreTextsOf old (texts words.building.files.items) files) (asked : options ≡ options_of words.building)
-    (of : AreTextsOfBuild files options (is_some words.report) made) where
-  by_status : (status : Status)
-      → LeavesTexts old new words.image.now words.report made.report.items status
-      → HasLeft old new (requests.Build words) status
-  by_status Done left = absurd left
-  by_status Refused (inl same) = inl same
-  by_status Refused (inr alone) = inr (record {
+    (of : AreTextsOfBuild files options (wanted_of words) made) where
+  told_alone : (between : Contents) → IsToldAlone between new words.report made.report.items
+      → IsToldAlone between new words.report (report_text of.answer.image of.answer.verdicts)
+  told_alone between alone = record {
     name = alone.name;
     named = alone.named;
-    report = made.report.items;
-    is = record {
-      answer = of.answer;
-      asked = record {
-        files = files;
-        held = held;
-        build = subst (λ (o : BuildOptions). IsBuildOfClassFiles files o of.answer) asked of.build;
-      };
-      is = of.report (ap is_some alone.named);
-    };
-    written = alone.written;
+    written = subst (λ (text : List ℕ). AreBytesOf (new alone.name.now) text) (of.report (ap is_some alone.named))
+        alone.written;
     others = alone.others;
+  }
+
+  or_alone : (between : Contents) → LeavesTexts between new words.image.now words.report made.report.items Refused
+      → (new ≡ between) ⊎ IsToldAlone between new words.report (report_text of.answer.image of.answer.verdicts)
+  or_alone between (inl same) = inl same
+  or_alone between (inr alone) = inr (told_alone between alone)
+
+  by_status : (status : Status) → LeavesAll old new words made status → HasLeft old new (requests.Build words) status
+  by_status Done left = absurd left
+  by_status Refused (inl same) = inl same
+  by_status Refused (inr (between, (put, left))) = inr (record {
+    answer = of.answer;
+    asked = record {
+      files = files;
+      held = held;
+      build = subst (λ (o : BuildOptions). IsBuildOfClassFiles files o of.answer) asked of.build;
+    };
+    between = between;
+    page = has_page old between words files options made asked of put;
+    report = or_alone between left;
   })
   by_status Words left = absurd left
   by_status Failed left = left
@@ -179,15 +248,39 @@ module _ (old new : Contents) (words : Build) (files : List (List ℕ)) (options
 pub build_left : (old mid new : Contents) (words : Build) (files : List (List ℕ)) (options : BuildOptions)
     (made : BuildTexts) (T : Type 0) (done : Result T CommandFault)
     → AreTextsOf old (texts words.building.files.items) files → options ≡ options_of words.building → mid ≡ old
-    → AreTextsOfBuild files options (is_some words.report) made
-    → IfErr done (λ refusal.
-    LeavesTexts mid new words.image.now words.report made.report.items (refusal_status refusal))
+    → AreTextsOfBuild files options (wanted_of words) made
+    → IfErr done (λ refusal. LeavesAll mid new words made (refusal_status refusal))
     → HasLeft old new (requests.Build words) (status_of_done done)
 build_left old mid new words files options made T (Ok it) held asked same of left = tt
 build_left old mid new words files options made T (Err refusal) held asked same of left =
     by_status old new words files options made held asked of (refusal_status refusal)
-    (subst (λ (h : Contents).
-    LeavesTexts h new words.image.now words.report made.report.items (refusal_status refusal)) same left)
+    (subst (λ (h : Contents). LeavesAll h new words made (refusal_status refusal)) same left)
+
+-- ---- the page of a report
+
+report_by : (old new : Contents) (words : Report) (status : Status) → OthersStayIf old new words.page
+    → (status ≡ Refused → new ≡ old) → HasLeft old new (requests.Report words) status
+report_by old new words Done others refused = tt
+report_by old new words Refused others refused = inl (refused refl)
+report_by old new words Words others refused = tt
+report_by old new words Failed others refused = others
+report_by old new words Stuck others refused = tt
+report_by old new words Limit others refused = tt
+report_by old new words Ended others refused = tt
+
+refused_by : {T : Type 0} (old new : Contents) (done : Result T CommandFault)
+    → IfErr done (λ refusal. refusal_status refusal ≡ Refused → new ≡ old)
+    → IsErrAnd done (λ refusal. refusal_status refusal ≡ Refused) → new ≡ old
+refused_by old new (Ok it) unchanged is = absurd is
+refused_by old new (Err refusal) unchanged is = unchanged is
+
+pub page_of_report : {T : Type 0} {X : Type 0} (old new : Contents) (words : Report) (done : Result T CommandFault)
+    (status : Status) → OthersStayIf old new words.page
+    → IfErr done (λ refusal. refusal_status refusal ≡ Refused → new ≡ old)
+    → (status ≡ Refused → X × IsErrAnd done (λ refusal. refusal_status refusal ≡ Refused))
+    → HasLeft old new (requests.Report words) status
+page_of_report old new words done status others unchanged refused =
+    report_by old new words status others (λ is. refused_by old new done unchanged (refused is).1)
 
 -- ---- journals
 
@@ -320,5 +413,7 @@ image_run_left holds mid new words P first status same begun left =
 -- ---- what functions of `build_texts` and `run` are proved by
 
 pub ruleset of_both_texts = (both_written, report_left, image_refused_after)
+
+pub ruleset of_all_texts = (page_refused, after_page, all_written)
 
 pub ruleset of_journal = (no_journal, journal_written, journal_refused)

@@ -1,10 +1,11 @@
 -- Words that name lists, and the names in these.
 use Rattle.std.proofs.Common.{◌≡◌, ◌≢◌, ◌∙◌, ℕ, ◌+◌, ◌==◌, ◌<◌, List, [], ◌∷◌, ◌++◌, Bool, true, false, length}
-use Rattle.std.proofs.Common.{get_or, take}
+use Rattle.std.proofs.Common.{get_or, take, sym}
 use Rattle.std.proofs.Common.{arith, refl, ap, subst, map, Some, None, if◌then◌else◌}
 use Rattle.std.specs.List.{AllZip, flat_map}
 use Rattle.std.specs.Borrow.{Bor}
-use Rattle.std.proofs.lemmas.List.{map_more}
+use Rattle.std.proofs.lemmas.List.{append-nil, map_more}
+use Rattle.std.proofs.lemmas.List.Concat.{flat_map-append}
 use Rattle.std.proofs.lemmas.List.Elements.{All-push}
 use Rattle.loading.proofs.ZipLemmas.{pairs_push}
 use Rattle.command_line.specs.Requests.{texts}
@@ -51,6 +52,19 @@ words_more output words i d one within same apart all =
     rw front
     (All-push (λ (other : List ℕ). list_of other ≢ Some output) (texts (take i words)) word all
     (λ is. let yes = same is in cc))
+
+-- what is made of one word after another
+pub made_more : (made : List ℕ → List ℕ) (words : List (Bor (List ℕ))) (i : ℕ) (d : Bor (List ℕ)) (old new : List ℕ)
+    → i < length words → old ≡ flat_map made (texts (take i words)) → new ≡ old ++ made (get_or words i d).now
+    → new ≡ flat_map made (texts (take (i + 1) words))
+made_more made words i d old new within so_far added =
+    let word = (get_or words i d).now in
+    let front : texts (take (i + 1) words) ≡ texts (take i words) ++ word ∷ [] =
+    map_more (λ (word : Bor (List ℕ)). word.now) words i d within in
+    let pieces : flat_map made (texts (take i words) ++ word ∷ []) ≡ flat_map made (texts (take i words)) ++ made word =
+    flat_map-append made (texts (take i words)) (word ∷ [])
+    ∙ ap (λ (z : List ℕ). flat_map made (texts (take i words)) ++ z) (append-nil (made word)) in
+    added ∙ ap (λ (z : List ℕ). z ++ made word) so_far ∙ sym pieces ∙ ap (flat_map made) (sym front)
 
 -- ---- together
 

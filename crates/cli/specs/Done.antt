@@ -25,6 +25,7 @@ use Rattle.command_line.specs.declared.request.Building.{Building}
 use Rattle.command_line.specs.declared.request.Lazy.{Lazy}
 use Rattle.command_line.specs.declared.request.Renew.{Renew}
 use Rattle.command_line.specs.declared.request.Replay.{Replay}
+use Rattle.command_line.specs.declared.request.Report.{Report}
 use Rattle.command_line.specs.declared.request.Request.{Request}
 use Rattle.command_line.specs.declared.request.Request.TheVariants as requests
 use Rattle.command_line.specs.declared.request.Run.{Run}
@@ -39,6 +40,7 @@ use Rattle.cli.specs.Inspections.{HasInspected}
 use Rattle.cli.specs.Journaled.{KeepsLimit}
 use Rattle.cli.specs.Lists.{NamesGiven}
 use Rattle.cli.specs.Outputs.{AreListsApart, IsApart}
+use Rattle.cli.specs.Pages.{IsPageBy}
 use Rattle.cli.specs.Renewals.{IsRenewed}
 use Rattle.cli.specs.Requested.{IsAskedBuild}
 use Rattle.cli.specs.Status.{replay_status, run_status}
@@ -132,8 +134,21 @@ abbrev pub AreWritten : Contents → Contents → List ℕ → Option (Bor (List
 AreWritten old new image None bytes text = AreBytesOf (new image) bytes × OthersStay old new image
 AreWritten old new image (Some report) bytes text = AreBothWritten old new image report.now bytes text
 
+-- The file of this name holds the page of a build, as the words say, and no other file was changed.
+pub record IsPageIn (old new : Contents) (name : List ℕ) (answer : Built) (words : Building) : Type 0 where
+  pub page : List ℕ
+  pub is : IsPageBy answer (text_of words.run_time) words.budget page
+  pub written : AreBytesOf (new name) page
+  pub others : OthersStay old new name
+
+-- the same where the words name a file for the page, and else no file was changed
+abbrev pub HasPage : Contents → Contents → Option (Bor (List ℕ)) → Built → Building → Type 0
+HasPage old new None answer words = new ≡ old
+HasPage old new (Some name) answer words = IsPageIn old new name.now answer words
+
 -- The file of the image holds the text of one that is built of the class files, as the words say, and that of the
--- report, where the words name one, the report on the same build.
+-- report, where the words name one, the report on the same build. Where they name one for a page, it was written before
+-- these, and has a name of its own (`IsPageApart`).
 pub record HasBuilt (old new : Contents) (words : Build) : Type 0 where
   pub answer : Built
   pub asked : IsAskedBuild old words.building answer
@@ -141,18 +156,22 @@ pub record HasBuilt (old new : Contents) (words : Build) : Type 0 where
   pub built : IsBuiltText asked.files (text_of words.building.run_time) (text_of words.building.build_time)
       words.building.budget bytes
   pub text : IsTextOf bytes answer.image
-  pub written : AreWritten old new words.image.now words.report bytes (report_text answer.image answer.verdicts)
+  pub between : Contents
+  pub page : HasPage old between words.page answer words.building
+  pub written : AreWritten between new words.image.now words.report bytes (report_text answer.image answer.verdicts)
 
--- This is the report on a build of the class files, as the words say.
-pub record IsReport (holds : Contents) (words : Building) (report : List ℕ) : Type 0 where
+-- This is the report on a build of the class files, as the words say, and the file of the page, where they name one,
+-- holds the page of the same build.
+pub record HasReport (old new : Contents) (words : Report) (report : List ℕ) : Type 0 where
   pub answer : Built
-  pub asked : IsAskedBuild holds words answer
+  pub asked : IsAskedBuild old words.building answer
+  pub page : HasPage old new words.page answer words.building
   pub is : report ≡ report_text answer.image answer.verdicts
 
 -- The report on a build of the class files went out.
-pub record HasReported (holds : Contents) (words : Building) (before after : Option (List ℕ)) : Type 0 where
+pub record HasReported (old new : Contents) (words : Report) (before after : Option (List ℕ)) : Type 0 where
   pub report : List ℕ
-  pub is : IsReport holds words report
+  pub is : HasReport old new words report
   pub sent : Appends before after report
 
 -- The new file holds the image that the file of the words holds, in the version that is written.
@@ -183,7 +202,7 @@ IsDone old new before after (requests.Renew words) status =
 IsDone old new before after (requests.Replay words) status =
     (new ≡ old) × HasReplayed old words before after status
 IsDone old new before after (requests.Report words) status =
-    (status ≡ Done) × (new ≡ old) × HasReported old words before after
+    (status ≡ Done) × HasReported old new words before after
 IsDone old new before after (requests.Run words) status = HasRunImage old new words before after status
 
 -- This holds of what a request asks for, with the names of lists in the place of the words that name these.

@@ -5,7 +5,8 @@ use Rattle.classfile.specs.Units.{units_text}
 use Rattle.loading.specs.Families.{name_in}
 use Rattle.program.specs.Tables.{Tables}
 use Rattle.options.specs.Classes.{AreClasses, IsForced}
-use Rattle.explain.specs.Texts.{IsAllText, IsClassText}
+use Rattle.explain.specs.AllTexts.{IsAllText}
+use Rattle.explain.specs.Texts.{IsClassText}
 use Rattle.building.specs.Builds.{patterns_in, text_of}
 use Rattle.building.specs.declared.build.Built.{Built}
 use Rattle.command_line.specs.declared.request.Explain.{Explain}
@@ -29,7 +30,7 @@ pub record IsExplanationOfClass (answer : Built) (at_run_time : List Bool) (budg
 -- The text is the one on all classes where the words say `all`, and else the one on the class of their name.
 abbrev pub IsExplanationOf : Built → List Bool → ℕ → List ℕ → List ℕ → Type 0
 IsExplanationOf answer at_run_time budget words text =
-    ((words ≡ codes "all") × IsAllText answer.image answer.verdicts at_run_time text)
+    ((words ≡ codes "all") × IsAllText answer.image answer.verdicts at_run_time budget text)
     ⊎ ((words ≢ codes "all") × IsExplanationOfClass answer at_run_time budget words text)
 
 -- The text is told where those classes are forced that a list of patterns says.

@@ -26,4 +26,5 @@ pub mod Explanations
 pub mod Inspections
 pub mod Totals
 pub mod Lists
+pub mod Pages
 pub mod Left

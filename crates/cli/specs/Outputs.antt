@@ -16,10 +16,16 @@ abbrev pub IsReportApart : Build → Type 0
 IsReportApart words = IfSome words.report
     (λ name. IsNoneOf name.now (texts words.building.files.items) × (name.now ≢ words.image.now))
 
+-- and so has its page, where the words name a file for it, and it has not the report's name
+abbrev pub IsPageApart : Build → Type 0
+IsPageApart words = IfSome words.page (λ name. IsNoneOf name.now (texts words.building.files.items)
+    × (name.now ≢ words.image.now) × IfSome words.report (λ report. name.now ≢ report.now))
+
 -- what a request has written has the name of nothing that it has read, and of nothing else that it has written
 abbrev pub IsApart : Request → Type 0
 IsApart (requests.Build words) =
-    IsNoneOf words.image.now (texts words.building.files.items) × IsReportApart words
+    IsNoneOf words.image.now (texts words.building.files.items) × IsReportApart words × IsPageApart words
+IsApart (requests.Report words) = IfSome words.page (λ name. IsNoneOf name.now (texts words.building.files.items))
 IsApart (requests.Renew words) = IsNoneOf words.new.now (words.image.now ∷ [])
 IsApart (requests.Run words) = IfSome words.journal (λ name. IsNoneOf name.now (words.image.now ∷ []))
 IsApart _ = ⊤
@@ -33,4 +39,7 @@ abbrev pub AreListsApart : Request → Type 0
 AreListsApart (requests.Build words) =
     IsNoListOf words.image.now (texts words.building.files.items)
     × IfSome words.report (λ name. IsNoListOf name.now (texts words.building.files.items))
+    × IfSome words.page (λ name. IsNoListOf name.now (texts words.building.files.items))
+AreListsApart (requests.Report words) =
+    IfSome words.page (λ name. IsNoListOf name.now (texts words.building.files.items))
 AreListsApart _ = ⊤

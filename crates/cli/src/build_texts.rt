@@ -15,12 +15,14 @@ ghost use Rattle.cli.specs.ImageBuilds.{AreAtMost, IsBuiltText};
 ghost use Rattle.cli.specs.ImageRuns.{IsTextOf};
 ghost use Rattle.cli.specs.Outputs.{IsReportApart};
 ghost use Rattle.cli.specs.Runs.{texts_of};
-ghost use Rattle.cli.specs.steps.BuildTexts.{AreTextsOfBuild};
-ghost use Rattle.cli.specs.steps.Left.{LeavesTexts};
+ghost use Rattle.cli.specs.Pages.{IsPageBy};
+ghost use Rattle.cli.specs.steps.BuildTexts.{AreAllWritten, AreTextsOfBuild};
+ghost use Rattle.cli.specs.steps.Left.{LeavesAll, LeavesTexts};
 
 use crate::builds::build;
 use crate::files::put;
 use crate::image_build::GREATEST_LENGTH;
+use crate::pages::{page_bytes, put_page};
 use crate::reporting::report_bytes;
 use crate::totals::tell_totals;
 use crate::watching::Watched;
@@ -31,6 +33,13 @@ use std::alloc::{AllocError, Global};
 use std::sync::Wait;
 use std::thread::Threads;
 
+/// Which texts of a build are wanted besides the image's.
+#[derive(Clone, Copy)]
+pub(crate) struct Wanted {
+    pub(crate) report: bool,
+    pub(crate) page: bool,
+}
+
 /// The texts of a build.
 #[derive(Drop)]
 pub(crate) struct BuildTexts {
@@ -38,6 +47,8 @@ pub(crate) struct BuildTexts {
     pub image: Vec<u8>,
     /// The report, where it is wanted.
     pub report: Vec<u8>,
+    /// The page, where it is wanted.
+    pub page: Vec<u8>,
 }
 
 /// Builds as `build` does, and answers the texts of it.
@@ -51,13 +62,13 @@ pub(crate) fn build_texts<H: Watch + Sync, R: Threads + Wait + Sync>(
     options: &BuildOptions<'_>,
     workers: u32,
     watch: &H,
-    reports: bool,
+    wanted: Wanted,
 ) -> Result<BuildTexts, BuildFault>
     requires { AreAtMost GREATEST_LENGTH (texts_of files.now) }
-    ensures { IfOk result (AreTextsOfBuild (texts_of files.now) options.now reports) }
+    ensures { IfOk result (AreTextsOfBuild (texts_of files.now) options.now wanted) }
 {
     match build(rt, alloc, files, options, workers, &Watched { watch }) {
-        Ok(built) => match texts_of_watched(alloc, &built, watch, reports) {
+        Ok(built) => match texts_of_watched(alloc, &built, options, watch, wanted) {
             Ok(texts) => Ok(texts),
             Err(_) => Err(BuildFault::Memory),
         },
@@ -69,28 +80,41 @@ pub(crate) fn build_texts<H: Watch + Sync, R: Threads + Wait + Sync>(
 fn texts_of_watched<H: Watch>(
     alloc: Global,
     built: &Built,
+    options: &BuildOptions<'_>,
     watch: &H,
-    reports: bool,
+    wanted: Wanted,
 ) -> Result<BuildTexts, AllocError>
     requires short { AreShort built.now.image.program.family }
     requires waves { GiveWaves built.now.image built.now.verdicts }
-    ensures { (texts : List (List ℕ)) (options : Options) → IsBuildOfClassFiles texts options built.now
-        → IfOk result (AreTextsOfBuild texts options reports) }
+    ensures { (texts : List (List ℕ)) → IsBuildOfClassFiles texts options.now built.now
+        → IfOk result (AreTextsOfBuild texts options.now wanted) }
 {
     tell_totals(alloc, built, watch);
-    texts_of_build(alloc, built, reports)
+    texts_of_build(alloc, built, options, wanted)
 }
 
 /// The texts of a build.
-fn texts_of_build(alloc: Global, built: &Built, reports: bool) -> Result<BuildTexts, AllocError>
+fn texts_of_build(
+    alloc: Global,
+    built: &Built,
+    options: &BuildOptions<'_>,
+    wanted: Wanted,
+) -> Result<BuildTexts, AllocError>
     requires short { AreShort built.now.image.program.family }
     requires waves { GiveWaves built.now.image built.now.verdicts }
-    ensures { (texts : List (List ℕ)) (options : Options) → IsBuildOfClassFiles texts options built.now
-        → IfOk result (AreTextsOfBuild texts options reports) }
+    ensures { (texts : List (List ℕ)) → IsBuildOfClassFiles texts options.now built.now
+        → IfOk result (AreTextsOfBuild texts options.now wanted) }
 {
     match image_bytes(alloc, built) {
-        Ok(image) => match report_if(alloc, built, reports) {
-            Ok(report) => Ok(BuildTexts { image, report }),
+        Ok(image) => match report_if(alloc, built, wanted.report) {
+            Ok(report) => match page_if(alloc, built, options, wanted.page) {
+                Ok(page) => Ok(BuildTexts {
+                    image,
+                    report,
+                    page,
+                }),
+                Err(error) => Err(error),
+            },
             Err(error) => Err(error),
         },
         Err(error) => Err(error),
@@ -122,12 +146,47 @@ fn report_if(alloc: Global, built: &Built, wanted: bool) -> Result<Vec<u8>, Allo
     }
 }
 
-/// Writes the texts of a build to the files that the words name, the image last.
+/// The page of a build, if it is wanted.
+fn page_if(
+    alloc: Global,
+    built: &Built,
+    options: &BuildOptions<'_>,
+    wanted: bool,
+) -> Result<Vec<u8>, AllocError>
+    requires { GiveWaves built.now.image built.now.verdicts }
+    ensures { wanted ≡ true → IfOk result
+        (λ bytes. IsPageBy built.now (list_of options.now.run_time) options.now.budget bytes.items) }
+{
+    if wanted {
+        page_bytes(alloc, built, options.run_time, options.budget)
+    } else {
+        Ok(Vec::new(alloc))
+    }
+}
+
+/// Writes the texts of a build to the files that the words name: the page first, and the image last.
 ///
 /// # Errors
 /// `File` of the first that can't be written, or memory.
-#[tactic(auto, using(crate::proofs::LeftLemmas::image_refused))]
+#[tactic(auto, using(crate::proofs::LeftLemmas::of_all_texts))]
 pub(crate) fn write_texts<F: Files>(
+    alloc: Global,
+    words: &Build<'_>,
+    texts: &BuildTexts,
+    files: &mut F,
+) -> Result<(), CommandFault>
+    requires { IsReportApart words.now }
+    ensures written { OnOk result (AreAllWritten (F.holds files.old) (F.holds files.new) words.now texts.now) }
+    ensures left { IfErr result (λ refusal. LeavesAll (F.holds files.old) (F.holds files.new) words.now texts.now
+        (refusal_status refusal)) }
+{
+    put_page(alloc, words.page, texts.page.as_slice(), files)?;
+    write_with_report(alloc, words, texts, files)
+}
+
+/// Writes the text of an image and, where the words name a file for it, the report before it.
+#[tactic(auto, using(crate::proofs::LeftLemmas::image_refused))]
+fn write_with_report<F: Files>(
     alloc: Global,
     words: &Build<'_>,
     texts: &BuildTexts,

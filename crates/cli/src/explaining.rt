@@ -3,7 +3,7 @@ ghost use Rattle.std.specs.Prelude.{◌≡◌, ◌↔◌, codes, IfOk, IsTrue};
 ghost use Rattle.building.specs.Builds.{patterns_in, text_of};
 ghost use Rattle.cli.specs.Explanations.{IsClassOf, IsExplained};
 ghost use Rattle.cli.specs.Explanations.{IsExplanationBy, IsExplanationOf, IsExplanationOfClass};
-ghost use Rattle.explain.specs.Texts.{IsAllText};
+ghost use Rattle.explain.specs.AllTexts.{IsAllText};
 ghost use Rattle.options.specs.Classes.{AreClasses, IsForced};
 ghost use Rattle.report.specs.Waves.{GiveWaves};
 
@@ -99,7 +99,11 @@ fn patterns_of(alloc: Global, list: Option<&str>) -> Result<Patterns, OptionFaul
 }
 
 /// The classes that a list forces to run time.
-fn forced_by(alloc: Global, program: &Program, list: Option<&str>) -> Result<Forced, OptionFault>
+pub(crate) fn forced_by(
+    alloc: Global,
+    program: &Program,
+    list: Option<&str>,
+) -> Result<Forced, OptionFault>
     ensures { IfOk result
         (λ forced. AreClasses forced (IsForced program.now.family (patterns_in (text_of list.entry)))) }
 {
@@ -137,7 +141,7 @@ fn explanation_of(
     ensures { IfOk result (λ text. IsExplanationOf built.now forced.now budget class.now text.items) }
 {
     if is_all(class) {
-        let text = explanation_of_all(alloc, built, forced)?;
+        let text = explanation_of_all(alloc, built, forced, budget)?;
         Ok(text)
     } else {
         let text = explanation_of_class(alloc, built, forced, budget, class)?;
@@ -153,11 +157,22 @@ fn is_all(class: &str) -> bool
 }
 
 /// The explanation of all classes.
-fn explanation_of_all(alloc: Global, built: &Built, forced: &Forced) -> Result<Vec<u8>, AllocError>
+fn explanation_of_all(
+    alloc: Global,
+    built: &Built,
+    forced: &Forced,
+    budget: u64,
+) -> Result<Vec<u8>, AllocError>
     requires { GiveWaves built.now.image built.now.verdicts }
-    ensures { IfOk result (λ text. IsAllText built.now.image built.now.verdicts forced.now text.items) }
+    ensures { IfOk result (λ text. IsAllText built.now.image built.now.verdicts forced.now budget text.items) }
 {
-    let text = all_text(alloc, &built.image, built.verdicts.as_slice(), forced)?;
+    let text = all_text(
+        alloc,
+        &built.image,
+        built.verdicts.as_slice(),
+        forced,
+        budget,
+    )?;
     Ok(text.into_bytes())
 }
 

@@ -11,9 +11,10 @@ ghost use Rattle.cli.specs.ImageBuilds.{AreAtMost, IsBuiltText};
 ghost use Rattle.cli.specs.Left.{HasLeft};
 ghost use Rattle.cli.specs.Outputs.{IsReportApart};
 ghost use Rattle.cli.specs.Runs.{texts_of};
+ghost use Rattle.cli.specs.steps.BuildTexts.{wanted_of};
 ghost use Rattle.cli.specs.steps.Left.{status_of_done};
 
-use crate::build_texts::{build_texts, image_bytes, write_texts};
+use crate::build_texts::{Wanted, build_texts, image_bytes, write_texts};
 use crate::builds::build;
 use crate::files::contents;
 use crate::requested::{options_of, refusal_of};
@@ -60,7 +61,17 @@ pub fn build_image<G: Gate, R: Threads + Wait + Sync>(
     }
 }
 
-/// Reads the class files, builds an image, and writes it and its report to their files, as the words say.
+/// Which texts of a build the words ask for, besides the image's.
+fn wanted_of(words: &Build<'_>) -> Wanted
+    ensures { result ≡ wanted_of words.now }
+{
+    Wanted {
+        report: words.report.is_some(),
+        page: words.page.is_some(),
+    }
+}
+
+/// Reads the class files, builds an image, and writes it, its report and its page to their files, as the words say.
 ///
 /// # Errors
 /// The first refusal: a file, the budget, the workers, a class file, linking, a list of patterns, an output, or memory.
@@ -82,7 +93,7 @@ pub(crate) fn run<R: Threads + Wait + Sync, F: Files, H: Watch + Sync>(
     let texts = contents(alloc, building.files.as_slice(), files, GREATEST_LENGTH)?;
     let options = options_of(building);
     watch.begin(Stage::Building);
-    let reports = words.report.is_some();
+    let wanted = wanted_of(words);
     match build_texts(
         rt,
         alloc,
@@ -90,7 +101,7 @@ pub(crate) fn run<R: Threads + Wait + Sync, F: Files, H: Watch + Sync>(
         &options,
         words.workers,
         watch,
-        reports,
+        wanted,
     ) {
         Ok(made) => {
             watch.begin(Stage::Writing);

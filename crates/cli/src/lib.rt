@@ -29,6 +29,7 @@ mod left_out;
 mod lists;
 mod meanings;
 mod outputs;
+mod pages;
 mod renewing;
 mod reporting;
 mod requested;
@@ -46,7 +47,8 @@ pub use building::{BuildFault, BuildOptions, Built};
 pub use builds::{build, build_here};
 pub use class_files::linked_program;
 pub use command_line::{
-    Audit, Build, Building, Explain, Inspect, Lazy, Renew, Replay, Request, Run, WordsFault, line,
+    Audit, Build, Building, Explain, Inspect, Lazy, Renew, Replay, Report, Request, Run,
+    WordsFault, line,
 };
 pub use entries::entries_of;
 pub use fault::CommandFault;

@@ -2,7 +2,7 @@
 ghost use Rattle.std.specs.Prelude.{◌≡◌, ◌≢◌, IfSome, None, Some, true};
 ghost use Rattle.command_line.specs.Requests.{texts};
 ghost use Rattle.cli.specs.Lists.{list_of};
-ghost use Rattle.cli.specs.Outputs.{AreListsApart, IsApart, IsNoListOf, IsNoneOf, IsReportApart};
+ghost use Rattle.cli.specs.Outputs.{AreListsApart, IsApart, IsNoListOf, IsNoneOf, IsPageApart, IsReportApart};
 
 use crate::lists::list_name;
 use crate::{Build, Files, Request};
@@ -28,27 +28,53 @@ pub(crate) fn overwritten<'a, F: Files>(request: &Request<'a>, files: &mut F) ->
             Some(journal) => among(journal, &[words.image], files),
             None => None,
         },
+        Request::Report(words) => match words.page {
+            Some(page) => among(page, words.building.files.as_slice(), files),
+            None => None,
+        },
         Request::Audit(_)
         | Request::Explain(_)
         | Request::Inspect(_)
         | Request::Lazy(_)
-        | Request::Replay(_)
-        | Request::Report(_) => None,
+        | Request::Replay(_) => None,
     }
 }
 
 fn overwritten_by_build<'a, F: Files>(words: &Build<'a>, files: &mut F) -> Option<Clash<'a>>
     ensures image { result ≡ None → IsNoneOf words.now.image.now (texts words.now.building.files.items) }
     ensures report { result ≡ None → IsReportApart words.now }
+    ensures page { result ≡ None → IsPageApart words.now }
     ensures same { F.holds files.new ≡ F.holds files.old }
 {
     match among(words.image, words.building.files.as_slice(), files) {
         Some(clash) => Some(clash),
         None => match words.report {
-            Some(report) => overwritten_by_report(report, words, files),
-            None => None,
+            Some(report) => match overwritten_by_report(report, words, files) {
+                Some(clash) => Some(clash),
+                None => overwritten_by_page(words, files),
+            },
+            None => overwritten_by_page(words, files),
         },
     }
+}
+
+/// The page of a build, where it is an input or another output.
+fn overwritten_by_page<'a, F: Files>(words: &Build<'a>, files: &mut F) -> Option<Clash<'a>>
+    ensures page { result ≡ None → IsPageApart words.now }
+    ensures same { F.holds files.new ≡ F.holds files.old }
+{
+    let Some(page) = words.page else {
+        return None;
+    };
+    if files.are_one(page, words.image) {
+        return Some(Clash::Outputs(page));
+    }
+    if let Some(report) = words.report {
+        if files.are_one(page, report) {
+            return Some(Clash::Outputs(page));
+        }
+    }
+    among(page, words.building.files.as_slice(), files)
 }
 
 fn overwritten_by_report<'a, F: Files>(
@@ -77,13 +103,15 @@ pub(crate) fn overwritten_list<'a, F: Files>(
 {
     match asked {
         Request::Build(words) => list_overwritten_by_build(words, files),
+        Request::Report(words) => {
+            list_overwritten_by(words.page, words.building.files.as_slice(), files)
+        }
         Request::Audit(_)
         | Request::Explain(_)
         | Request::Inspect(_)
         | Request::Lazy(_)
         | Request::Renew(_)
         | Request::Replay(_)
-        | Request::Report(_)
         | Request::Run(_) => None,
     }
 }
@@ -92,15 +120,32 @@ fn list_overwritten_by_build<'a, F: Files>(words: &Build<'a>, files: &mut F) -> 
     ensures image { result ≡ None → IsNoListOf words.now.image.now (texts words.now.building.files.items) }
     ensures report { result ≡ None → IfSome words.now.report
         (λ name. IsNoListOf name.now (texts words.now.building.files.items)) }
+    ensures page { result ≡ None → IfSome words.now.page
+        (λ name. IsNoListOf name.now (texts words.now.building.files.items)) }
     ensures same { F.holds files.new ≡ F.holds files.old }
 {
     let names = words.building.files.as_slice();
     match among_lists(words.image, names, files) {
         Some(clash) => Some(clash),
-        None => match words.report {
-            Some(report) => among_lists(report, names, files),
-            None => None,
+        None => match list_overwritten_by(words.report, names, files) {
+            Some(clash) => Some(clash),
+            None => list_overwritten_by(words.page, names, files),
         },
+    }
+}
+
+/// An output, if there is one and it is one of the lists that these words name.
+fn list_overwritten_by<'a, F: Files>(
+    output: Option<&'a str>,
+    words: &[&str],
+    files: &mut F,
+) -> Option<Clash<'a>>
+    ensures apart { result ≡ None → IfSome output (λ name. IsNoListOf name.now (texts words.now)) }
+    ensures same { F.holds files.new ≡ F.holds files.old }
+{
+    match output {
+        Some(output) => among_lists(output, words, files),
+        None => None,
     }
 }
 

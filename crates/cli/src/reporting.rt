@@ -1,12 +1,17 @@
 //! The command `report`: a build in memory, and a line for each class.
-ghost use Rattle.std.specs.Prelude.{◌≡◌, IfOk};
-ghost use Rattle.cli.specs.Done.{IsReport};
+ghost use Rattle.std.specs.Prelude.{◌≡◌, IfErr, IfOk, OnOk};
+ghost use Rattle.cli.specs.CommandFault.{refusal_status};
+ghost use Rattle.cli.specs.Done.{HasPage, HasReport};
+ghost use Rattle.cli.specs.Left.{OthersStayIf};
+ghost use Rattle.cli.specs.declared.status.Status.TheVariants.{Refused};
 ghost use Rattle.report.specs.Texts.{report_text};
 ghost use Rattle.report.specs.Waves.{GiveWaves};
 
+use crate::files::put;
+use crate::pages::page_bytes;
 use crate::requested::asked_build;
 use crate::totals::tell_cures_and_totals;
-use crate::{Building, CommandFault, Files, Watch};
+use crate::{CommandFault, Files, Report, Watch};
 use building::Built;
 use report::render;
 use sinks::Out;
@@ -14,27 +19,71 @@ use std::alloc::{AllocError, Global};
 use std::sync::Wait;
 use std::thread::Threads;
 
-/// Reads the class files, builds an image, and answers its report, as the words say.
+/// Reads the class files, builds an image, writes its page, where the words name a file for it, and answers its report.
 ///
 /// # Errors
-/// The first refusal: a file, the budget, a class file, linking, a list of patterns, or memory.
+/// The first refusal: a file, the budget, a class file, linking, a list of patterns, the page's file, or memory.
 pub(crate) fn run<R: Threads + Wait + Sync, F: Files, H: Watch + Sync>(
     rt: &R,
     alloc: Global,
-    words: &Building<'_>,
+    words: &Report<'_>,
     files: &mut F,
     watch: &H,
 ) -> Result<Vec<u8>, CommandFault>
-    ensures report { IfOk result (λ bytes. IsReport (F.holds files.old) words.now bytes.items) }
-    ensures same { F.holds files.new ≡ F.holds files.old }
+    ensures report { IfOk result (λ bytes. HasReport (F.holds files.old) (F.holds files.new) words.now bytes.items) }
+    ensures others { OthersStayIf (F.holds files.old) (F.holds files.new) words.now.page }
+    ensures refused { IfErr result (λ refusal. refusal_status refusal ≡ Refused
+        → F.holds files.new ≡ F.holds files.old) }
 {
-    match asked_build(rt, alloc, words, files, watch) {
+    match asked_build(rt, alloc, &words.building, files, watch) {
         Ok(built) => {
             tell_cures_and_totals(alloc, &built, watch);
-            Ok(report_bytes(alloc, &built)?)
+            told(alloc, &built, words, files)
         }
         Err(refusal) => Err(refusal),
     }
+}
+
+/// Writes the page of a build, if it is asked for, and answers its report.
+fn told<F: Files>(
+    alloc: Global,
+    built: &Built,
+    words: &Report<'_>,
+    files: &mut F,
+) -> Result<Vec<u8>, CommandFault>
+    requires { GiveWaves built.now.image built.now.verdicts }
+    ensures report { IfOk result (λ bytes. bytes.items ≡ report_text built.now.image built.now.verdicts) }
+    ensures page { OnOk result
+        (HasPage (F.holds files.old) (F.holds files.new) words.now.page built.now words.now.building) }
+    ensures others { OthersStayIf (F.holds files.old) (F.holds files.new) words.now.page }
+    ensures refused { IfErr result (λ refusal. refusal_status refusal ≡ Refused
+        → F.holds files.new ≡ F.holds files.old) }
+{
+    let report = report_bytes(alloc, built)?;
+    write_page(alloc, built, words, files)?;
+    Ok(report)
+}
+
+/// Writes the page of a build, if it is asked for.
+fn write_page<F: Files>(
+    alloc: Global,
+    built: &Built,
+    words: &Report<'_>,
+    files: &mut F,
+) -> Result<(), CommandFault>
+    requires { GiveWaves built.now.image built.now.verdicts }
+    ensures page { OnOk result
+        (HasPage (F.holds files.old) (F.holds files.new) words.now.page built.now words.now.building) }
+    ensures others { OthersStayIf (F.holds files.old) (F.holds files.new) words.now.page }
+    ensures refused { IfErr result (λ refusal. refusal_status refusal ≡ Refused
+        → F.holds files.new ≡ F.holds files.old) }
+{
+    let Some(name) = words.page else {
+        return Ok(());
+    };
+    let building = &words.building;
+    let page = page_bytes(alloc, built, building.run_time, building.budget)?;
+    put(alloc, name, page.as_slice(), files)
 }
 
 /// The report of a build.

@@ -331,7 +331,7 @@ fn do_and_tell<
 }
 
 /// Does the command of a request. Answers standard output back.
-#[tactic(auto, using(crate::proofs::LeftLemmas::unchanged, crate::proofs::LeftLemmas::done_left))]
+#[tactic(auto, using(crate::proofs::LeftLemmas::unchanged, crate::proofs::LeftLemmas::done_left, crate::proofs::LeftLemmas::page_of_report))]
 fn do_request<
     R: Threads + Wait + Sync,
     F: Files,

@@ -1,5 +1,5 @@
 //! What a command tells on standard output and standard error.
-ghost use Rattle.std.specs.Prelude.{◌≡◌, ◌≢◌, ◌⊎◌, ℕ, List, IsOk, IsOkAnd};
+ghost use Rattle.std.specs.Prelude.{◌≡◌, ◌≢◌, ◌⊎◌, ℕ, List, IsErrAnd, IsOk, IsOkAnd};
 ghost use Rattle.std.specs.Io.KnownBytes.{Appends};
 ghost use Rattle.vm_state.specs.Output.{text_of};
 ghost use Rattle.command_line.specs.Requests.{IsFaultOf};
@@ -153,7 +153,8 @@ pub(crate) fn tell_report<W: Write, E: Errors, H: Watch>(
     watch: &H,
     errors: &mut E,
 ) -> Status
-    ensures refused { result ≡ Status.Refused → out.new ≡ out.old }
+    ensures refused { result ≡ Status.Refused → (out.new ≡ out.old)
+        × IsErrAnd report (λ refusal. refusal_status refusal ≡ Status.Refused) }
     ensures words { result ≢ Status.Words }
     ensures done { IsOver result → (result ≡ Status.Done)
         × IsOkAnd report (λ text. Appends (W.contents out.old) (W.contents out.new) text.items) }

@@ -1,11 +1,12 @@
 //! What a build comes to, in words.
 
 ghost use Rattle.std.specs.Prelude.{◌≡◌, ◌++◌, ◌<◌, ◌≤◌, ◌^◌, IfOk, OnOk, length};
-ghost use Rattle.std.specs.List.{count_by, sum};
+ghost use Rattle.std.specs.List.{count_by, flat_map, sum};
 ghost use Rattle.std.specs.String.{string_bytes};
 ghost use Rattle.image_writer.specs.ImageTexts.{region_sizes as sizes_in};
+ghost use Rattle.command_line.specs.Requests.{texts};
 ghost use Rattle.inspection.specs.Texts.{objects_below};
-ghost use Rattle.cli.specs.Totals.{is_built, is_left_by, left_by, left_text};
+ghost use Rattle.cli.specs.Totals.{is_built, is_left_by, left_by, left_text, totals_text};
 
 use crate::Watch;
 use crate::cures::{CURES, REASONS};
@@ -69,11 +70,13 @@ fn add_left(text: &mut String, verdicts: &[Verdict], word: &str) -> Result<(), A
     write!(text, " {word} {count}")
 }
 
-/// How many classes are left by each reason.
-fn left_text(alloc: Global, verdicts: &[Verdict]) -> Result<String, AllocError> {
+/// How many classes are left by each reason of some, in their order.
+fn left_texts(alloc: Global, verdicts: &[Verdict], words: &[&str]) -> Result<String, AllocError>
+    ensures { IfOk result (λ text. string_bytes text ≡ flat_map (left_text verdicts.now) (texts words.now)) }
+{
     let mut text = String::new(alloc);
-    for place in 0..REASONS.len() {
-        add_left(&mut text, verdicts, REASONS[place])?;
+    for word in words {
+        add_left(&mut text, verdicts, word)?;
     }
     Ok(text)
 }
@@ -111,14 +114,16 @@ fn bytes_of(alloc: Global, image: &Image) -> Result<u128, AllocError>
 
 /// What a build comes to: its classes, and how many are initialized, with how many objects and bytes; and how many are
 /// left to run time by each reason.
-fn totals_text(alloc: Global, image: &Image, verdicts: &[Verdict]) -> Result<String, AllocError> {
+fn totals_text(alloc: Global, image: &Image, verdicts: &[Verdict]) -> Result<String, AllocError>
+    ensures { IfOk result (λ text. string_bytes text ≡ totals_text image.now verdicts.now) }
+{
     let classes = verdicts.len();
     let built = built_count(verdicts);
     let left = classes - built;
     let family = image.program().family().classes();
     let objects = objects_below(image, family.len() as u32);
     let bytes = bytes_of(alloc, image)?;
-    let reasons = left_text(alloc, verdicts)?;
+    let reasons = left_texts(alloc, verdicts, &REASONS)?;
     format!(in alloc;
         "classes {classes} built {built} objects {objects} bytes {bytes} left {left}{reasons}"
     )

@@ -119,7 +119,7 @@ fn building_of<'r, 'a>(request: &'r Request<'a>) -> Option<&'r Building<'a>> {
     match request {
         Request::Build(words) => Some(&words.building),
         Request::Explain(words) => Some(&words.building),
-        Request::Report(words) => Some(words),
+        Request::Report(words) => Some(&words.building),
         Request::Audit(_)
         | Request::Inspect(_)
         | Request::Lazy(_)

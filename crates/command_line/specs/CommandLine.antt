@@ -55,6 +55,9 @@ entries = text (codes "entries") (codes "entries") true
 abbrev pub limit : Rule
 limit = number (codes "limit") (codes "100000000") (vp.Unsigned 1 (10 ^ 15))
 
+abbrev pub page : Rule
+page = text (codes "page") (codes "page") false
+
 abbrev pub workers : Rule
 workers = number (codes "workers") (codes "1") (vp.Unsigned 0 (2 ^ 32 - 1))
 
@@ -67,8 +70,8 @@ command name rules = record (new_shape name) { rules = flag (codes "verbose") �
 abbrev pub commands : List Shape
 commands =
     command (codes "build")
-    (text (codes "out") (codes "out") true ∷ text (codes "report") (codes "report") false ∷ workers ∷ of_a_build)
-    ∷ command (codes "report") of_a_build
+    (text (codes "out") (codes "out") true ∷ text (codes "report") (codes "report") false ∷ page ∷ workers ∷ of_a_build)
+    ∷ command (codes "report") (page ∷ of_a_build)
     ∷ command (codes "explain") (word (codes "class") ∷ of_a_build)
     ∷ command (codes "renew") (text (codes "out") (codes "out") true ∷ word (codes "image") ∷ [])
     ∷ command (codes "inspect") (word (codes "image") ∷ [])

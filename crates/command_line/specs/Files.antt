@@ -12,7 +12,7 @@ files_of (requests.Audit audit) = audit.files.items
 files_of (requests.Build build) = build.building.files.items
 files_of (requests.Explain explain) = explain.building.files.items
 files_of (requests.Lazy lazy) = lazy.files.items
-files_of (requests.Report building) = building.files.items
+files_of (requests.Report report) = report.building.files.items
 files_of _ = []
 
 -- the same build of other class files
@@ -27,5 +27,6 @@ with_files (requests.Build build) files =
 with_files (requests.Explain explain) files =
     requests.Explain (record explain { building = building_with explain.building files })
 with_files (requests.Lazy lazy) files = requests.Lazy (record lazy { files = files })
-with_files (requests.Report building) files = requests.Report (building_with building files)
+with_files (requests.Report report) files =
+    requests.Report (record report { building = building_with report.building files })
 with_files request _ = request

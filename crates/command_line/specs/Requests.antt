@@ -17,6 +17,7 @@ use Rattle.command_line.specs.declared.request.Inspect.{Inspect}
 use Rattle.command_line.specs.declared.request.Lazy.{Lazy}
 use Rattle.command_line.specs.declared.request.Renew.{Renew}
 use Rattle.command_line.specs.declared.request.Replay.{Replay}
+use Rattle.command_line.specs.declared.request.Report.{Report}
 use Rattle.command_line.specs.declared.request.Request.{Request}
 use Rattle.command_line.specs.declared.request.Request.TheVariants as requests
 use Rattle.command_line.specs.declared.request.Run.{Run}
@@ -64,8 +65,13 @@ pub record HoldsBuilding (found : List Row) (building : Building) : Type 0 where
 pub record HoldsBuild (found : List Row) (build : Build) : Type 0 where
   pub image : first_of (codes "out") found ≡ Some build.image.now
   pub report : text_in build.report ≡ first_of (codes "report") found
+  pub page : text_in build.page ≡ first_of (codes "page") found
   pub building : HoldsBuilding found build.building
   pub workers : HoldsBits 32 found (codes "workers") build.workers
+
+pub record HoldsReport (found : List Row) (report : Report) : Type 0 where
+  pub page : text_in report.page ≡ first_of (codes "page") found
+  pub building : HoldsBuilding found report.building
 
 -- what is requested of the classes of a build, or of one of them
 pub record HoldsExplain (found : List Row) (explain : Explain) : Type 0 where
@@ -123,7 +129,7 @@ Holds name found (requests.Inspect inspect) = (name ≡ codes "inspect") × Hold
 Holds name found (requests.Lazy lazy) = (name ≡ codes "lazy") × HoldsLazy found lazy
 Holds name found (requests.Renew renew) = (name ≡ codes "renew") × HoldsRenew found renew
 Holds name found (requests.Replay replay) = (name ≡ codes "replay") × HoldsReplay found replay
-Holds name found (requests.Report building) = (name ≡ codes "report") × HoldsBuilding found building
+Holds name found (requests.Report report) = (name ≡ codes "report") × HoldsReport found report
 Holds name found (requests.Run run) = (name ≡ codes "run") × HoldsRun found run
 
 -- The arguments name a command of the program, break no rule, and this is what they request: the command, with the

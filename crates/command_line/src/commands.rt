@@ -35,6 +35,7 @@ const COMMANDS: [Description; 9] = [
             VERBOSE,
             OUT,
             REPORT,
+            PAGE,
             WORKERS,
             BUILD_TIME,
             RUN_TIME,
@@ -46,7 +47,7 @@ const COMMANDS: [Description; 9] = [
         name: "report",
         about: REPORT_ABOUT,
         long_about: REPORT_LONG_ABOUT,
-        arguments: &[VERBOSE, BUILD_TIME, RUN_TIME, BUDGET, BUILT_FILES],
+        arguments: &[VERBOSE, PAGE, BUILD_TIME, RUN_TIME, BUDGET, BUILT_FILES],
     },
     Description {
         name: "explain",
@@ -114,6 +115,14 @@ const REPORT: Argument = Argument::Text {
     value: "FILE",
     is_required: false,
     help: "The file that gets the report of the build, as 'preinit report' prints it",
+};
+
+const PAGE: Argument = Argument::Text {
+    id: "page",
+    name: "page",
+    value: "FILE",
+    is_required: false,
+    help: "The file that gets the build as a page of HTML",
 };
 
 const WORKERS: Argument = Argument::Number {

@@ -13,4 +13,6 @@ mod texts;
 
 pub use fault::WordsFault;
 pub use matched::line;
-pub use request::{Audit, Build, Building, Explain, Inspect, Lazy, Renew, Replay, Request, Run};
+pub use request::{
+    Audit, Build, Building, Explain, Inspect, Lazy, Renew, Replay, Report, Request, Run,
+};

@@ -6,14 +6,14 @@ ghost use Rattle.clap.specs.Walk.{first_of, rows_of};
 ghost use Rattle.command_line.specs.CommandLine.{preinit};
 ghost use Rattle.command_line.specs.Requests.{Holds, HoldsAudit, HoldsBits, HoldsBuild, HoldsBuilding, HoldsExplain};
 ghost use Rattle.command_line.specs.Requests.{HoldsFlag, HoldsInspect, HoldsLazy, HoldsNumber, HoldsRenew};
-ghost use Rattle.command_line.specs.Requests.{HoldsReplay, HoldsRun};
+ghost use Rattle.command_line.specs.Requests.{HoldsReplay, HoldsReport, HoldsRun};
 ghost use Rattle.command_line.specs.Requests.{IsFaultOf, IsLine, text_in, texts, values_of};
 ghost use Rattle.command_line.specs.steps.Faults.{AskedByMatches, IsWhatHolds, SaysKind};
 
 use crate::commands::program;
 use crate::parsed::fault_of;
 use crate::{
-    Audit, Build, Building, Explain, Inspect, Lazy, Renew, Replay, Request, Run, WordsFault,
+    Audit, Build, Building, Explain, Inspect, Lazy, Renew, Replay, Report, Request, Run, WordsFault,
 };
 use clap::error::ErrorKind;
 use clap::{ArgMatches, Command};
@@ -80,7 +80,7 @@ fn asked_of<'a>(
         "lazy" => Ok(lazy_of(alloc, arguments)?.map(Request::Lazy)),
         "renew" => Ok(renew_of(arguments).map(Request::Renew)),
         "replay" => Ok(replay_of(arguments).map(Request::Replay)),
-        "report" => Ok(building_of(alloc, arguments)?.map(Request::Report)),
+        "report" => Ok(report_of(alloc, arguments)?.map(Request::Report)),
         "run" => Ok(run_of(arguments).map(Request::Run)),
         _ => Ok(None),
     }
@@ -99,6 +99,7 @@ fn build_of<'a>(alloc: Global, matches: &ArgMatches<'a>) -> Result<Option<Build<
         Some(building) => Ok(Some(Build {
             image,
             report: text_of(matches, "report"),
+            page: text_of(matches, "page"),
             building,
             workers,
         })),
@@ -149,6 +150,18 @@ fn explain_of<'a>(
             Some(building) => Ok(Some(Explain { class, building })),
             None => Ok(None),
         },
+        None => Ok(None),
+    }
+}
+
+fn report_of<'a>(alloc: Global, matches: &ArgMatches<'a>) -> Result<Option<Report<'a>>, AllocError>
+    ensures { IfOk result (IsWhatHolds (HoldsReport (rows_of (found_of matches.now)))) }
+{
+    match building_of(alloc, matches)? {
+        Some(building) => Ok(Some(Report {
+            page: text_of(matches, "page"),
+            building,
+        })),
         None => Ok(None),
     }
 }

@@ -20,7 +20,7 @@ pub enum Request<'a> {
     /// `replay`: run an image by a journal.
     Replay(Replay<'a>),
     /// `report`: show which classes are initialized at build time.
-    Report(Building<'a>),
+    Report(Report<'a>),
     /// `run`: run an image, by threads or by turns.
     Run(Run<'a>),
 }
@@ -52,10 +52,21 @@ pub struct Build<'a> {
     pub image: &'a str,
     /// The name of the file that gets the report.
     pub report: Option<&'a str>,
+    /// The name of the file that gets the page.
+    pub page: Option<&'a str>,
     /// What it is built of, and how.
     pub building: Building<'a>,
     /// How many threads of the system run initializers.
     pub workers: u32,
+}
+
+/// What the arguments of `report` request.
+#[derive(Drop)]
+pub struct Report<'a> {
+    /// The name of the file that gets the page.
+    pub page: Option<&'a str>,
+    /// The build that is asked about.
+    pub building: Building<'a>,
 }
 
 /// What the arguments of `build`, `report` and `explain` request of a build.
@@ -155,7 +166,7 @@ impl<'a> Request<'a> {
             Request::Lazy(lazy) => lazy.verbose,
             Request::Renew(renew) => renew.verbose,
             Request::Replay(replay) => replay.verbose,
-            Request::Report(building) => building.verbose,
+            Request::Report(report) => report.building.verbose,
             Request::Run(run) => run.verbose,
         }
     }
@@ -169,7 +180,7 @@ impl<'a> Request<'a> {
             Request::Build(build) => build.building.files.as_slice(),
             Request::Explain(explain) => explain.building.files.as_slice(),
             Request::Lazy(lazy) => lazy.files.as_slice(),
-            Request::Report(building) => building.files.as_slice(),
+            Request::Report(report) => report.building.files.as_slice(),
             Request::Inspect(_) | Request::Renew(_) | Request::Replay(_) | Request::Run(_) => &[],
         }
     }
@@ -187,6 +198,7 @@ impl<'a> Request<'a> {
             Request::Build(build) => Request::Build(Build {
                 image: build.image,
                 report: build.report,
+                page: build.page,
                 building: build.building.with_files(files),
                 workers: build.workers,
             }),
@@ -201,7 +213,10 @@ impl<'a> Request<'a> {
                 files,
                 verbose: lazy.verbose,
             }),
-            Request::Report(building) => Request::Report(building.with_files(files)),
+            Request::Report(report) => Request::Report(Report {
+                page: report.page,
+                building: report.building.with_files(files),
+            }),
             Request::Inspect(inspect) => Request::Inspect(inspect),
             Request::Renew(renew) => Request::Renew(renew),
             Request::Replay(replay) => Request::Replay(replay),

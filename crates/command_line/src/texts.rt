@@ -30,9 +30,10 @@ Standard output gets nothing. The image is the same for any order of the class f
 can't be written, the file is named as it was given: 'preinit: File app.img'. So is a class file of 2^32 bytes or more.
 A number of workers outside 1 to 64 is refused: 'preinit: Wave Workers'.
 
-With --report the report of this build is written, before the image. With --verbose standard error gets a last line: how
-many classes there are, how many of them are initialized, with how many objects and bytes, how many are left by each
-reason, and how much time and memory the build took:
+With --report the report of this build is written, before the image, and with --page, before both, a page of HTML:
+totals, pictures, and a table of all classes, each with what 'preinit explain all' shows of it. With --verbose standard
+error gets a last line: how many classes there are, how many of them are initialized, with how many objects and bytes,
+how many are left by each reason, and how much time and memory the build took:
   classes 9 built 6 objects 41 bytes 2034 left 3 Prints 1 DependsOn 2; 0.08 s, at most 14 MB
 
 For example: preinit build --out app.img app/Main.class app/Table.class";
@@ -87,6 +88,9 @@ another class, at more than an array's length or an enum constant's name and ord
 An option is refused as Empty and the index of an item, Unknown and the item, Both and a class that is requested for
 both times, or Demanded and a class that can't be initialized at build time, with the reason.
 
+With --page a page of HTML is written before: totals, pictures, and a table of all classes, each with what 'preinit
+explain all' shows of it. It loads nothing from elsewhere.
+
 With --verbose standard error gets what can be done about each reason that stands, and then the line on what the build
 came to that 'preinit build' has.
 
@@ -112,8 +116,8 @@ and of one that is initialized at build time:
                                     keeps, and the bytes of its region
 
 Of 'all' classes it shows the same without calls, without the instruction at which the run of an initializer ended, and
-with the ends of such chains alone, and then the ten classes because of which the most others are initialized at run
-time: '12 depend on app/Clock'.
+with the ends of such chains alone; then the ten classes because of which the most others are initialized at run time:
+'12 depend on app/Clock'; and then what each class cost that is initialized at build time, the dearest first.
 
 With --verbose standard error gets, of a class that is Unsupported, whether the method that is called is synchronized or
 native, or that a class literal or assert makes an 'ldc' of a class.

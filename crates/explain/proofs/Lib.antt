@@ -12,3 +12,5 @@ pub mod BearersLemmas
 pub mod FoundLemmas
 pub mod MarkingLemmas
 pub mod SelectedLemmas
+pub mod TakenLemmas
+pub mod CostsLemmas

@@ -59,3 +59,20 @@ first_all I c n copies small past first = fun_ext (λ d. elim (either d) [
     none : (d : ℕ) → n ≤ d → (b : Bool) → (if b then None else environment_of I.regions d) ≡ None
     none d high true = refl
     none d high false = by d high (environment_of I.regions d) refl
+
+-- the same of all regions, where none is left out
+pub first_every : (I : ImageTables) (n : ℕ) (copies : Environment) → AreSmall I.program (environment_of I.regions)
+    → length I.program.classes ≤ n → AreFirst (environment_of I.regions) n copies
+    → copies ≡ environment_of I.regions
+first_every I n copies small past first = fun_ext (λ d. elim (either d) [
+  | inl low ↦ first.copied d low
+  | inr high ↦ first.rest d high ∙ sym (by d high (environment_of I.regions d) refl)
+])
+  where
+    either : (d : ℕ) → (d < n) ⊎ (n ≤ d)
+    either d = grind arith
+
+    by : (d : ℕ) → n ≤ d → (o : Option RegionOf) → environment_of I.regions d ≡ o
+        → environment_of I.regions d ≡ None
+    by d high None is = is
+    by d high (Some region) is = absurd (omega (arith, high, past, small.classes d region is))

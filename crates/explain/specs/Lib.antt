@@ -5,3 +5,5 @@ pub mod Explanations
 pub mod Reruns
 pub mod steps
 pub mod Texts
+pub mod Costs
+pub mod AllTexts

@@ -214,12 +214,3 @@ abbrev pub AreAtMost : ℕ → (List ℕ → Type 0) → List ℕ → Type 0
 AreAtMost zero Is text = text ≡ []
 AreAtMost (suc n) Is text = AreAtMost n Is text
     ⊎ ((before : List ℕ) × (last : List ℕ) × AreAtMost n Is before × Is last × (text ≡ before ++ last))
-
--- Of each class, in the order of their numbers, all that stands against it; then at most ten lines on others.
-pub record IsAllText (I : ImageTables) (verdicts : List Verdict) (at_run_time : List Bool) (text : List ℕ)
-    : Type 0 where
-  pub each : List ℕ
-  pub has_each : AreEachBelow (IsTextAmongAll I verdicts at_run_time) (length I.program.classes) each
-  pub blamed : List ℕ
-  pub has_blamed : AreAtMost 10 (IsBlamedLine I.program.family) blamed
-  pub is : text ≡ each ++ blamed

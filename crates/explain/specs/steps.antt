@@ -10,3 +10,4 @@ pub mod Found
 pub mod Marking
 pub mod Roots
 pub mod Others
+pub mod FirstCosts

@@ -11,9 +11,9 @@ use std::alloc::{AllocError, Global};
 
 /// A class with a reason of its own, and how many others stay at run time for its sake.
 #[derive(Clone, Copy)]
-pub(crate) struct Blamed {
-    pub(crate) class: usize,
-    pub(crate) others: u32,
+pub struct Blamed {
+    pub class: usize,
+    pub others: u32,
 }
 
 /// How many doublings reach the end of a chain of 65,535 classes.

@@ -1,6 +1,8 @@
 //! All that stands against a class.
 
 ghost use Rattle.std.specs.Prelude.{◌≡◌, length, slice_index_or, None, IfOk};
+ghost use Rattle.use_graph.specs.Uses.{AreUses};
+ghost use Rattle.use_graph.specs.steps.Bodies.{IsUseGraph};
 ghost use Rattle.explain.specs.Explanations.{Explains};
 ghost use Rattle.explain.specs.steps.Known.{IsKnown};
 
@@ -14,6 +16,7 @@ use initializer_analysis::verdict::Verdict;
 use program::Program;
 use std::alloc::{AllocError, Global};
 use use_graph::UseGraph;
+use use_graph::class_uses::Uses;
 
 /// What is known of all classes of a program.
 #[derive(Drop)]
@@ -77,6 +80,22 @@ impl Knowledge {
             evidences,
             search,
         })
+    }
+
+    /// What the initialization of a class may run and use.
+    ///
+    /// # Errors
+    /// Where memory runs out.
+    pub(crate) fn uses(
+        &self,
+        alloc: Global,
+        program: &Program,
+        class: u32,
+    ) -> Result<Uses, AllocError>
+        requires { IsUseGraph program.now self.now.uses }
+        ensures { IfOk result (AreUses program.now class) }
+    {
+        self.uses.uses(alloc, program, class)
     }
 
     /// All that stands against a class, but for a run of its initializer; with the calls that lead to what its code is

@@ -1,16 +1,20 @@
 //! Explanations as lines of text, each of which begins with the name of the class.
 
 ghost use Rattle.std.specs.Prelude.{◌≡◌, ◌≤◌, length, IfOk, string_bytes};
+ghost use Rattle.std.specs.List.{flat_map};
+ghost use Rattle.explain.specs.Costs.{cost_text, IsCostsText};
+ghost use Rattle.explain.specs.AllTexts.{IsAllText};
 ghost use Rattle.explain.specs.Texts.{blamed_line, verdict_line, AreAtMost, AreEachBelow};
-ghost use Rattle.explain.specs.Texts.{IsAllText, IsBlamedLine, IsClassText, IsTextAmongAll};
-ghost use Rattle.explain.specs.steps.Known.{IsKnown};
-ghost use Rattle.explain.specs.steps.Roots.{AreRoots};
+ghost use Rattle.explain.specs.Texts.{IsBlamedLine, IsClassText, IsTextAmongAll};
+ghost use Rattle.explain.specs.steps.Known.{IsOverview};
 
-use crate::blamed::{Blamed, most_blamed, roots_of};
-use crate::chain_lines::{chain_text, ends_text};
+use crate::blamed::Blamed;
+use crate::chain_lines::chain_text;
+use crate::costs::{Cost, costs_of, dearest_first};
 use crate::explaining::Knowledge;
+use crate::overview::Overview;
 use crate::reason_lines::reason_lines;
-use crate::run_lines::run_text;
+use crate::run_lines::{cost_text, run_text};
 use crate::words::{line, name_text};
 use initializer_analysis::forced::Forced;
 use initializer_analysis::verdict::Verdict;
@@ -20,7 +24,7 @@ use report::verdict_text;
 use std::alloc::{AllocError, Global};
 
 /// The line that a report has of a class.
-fn verdict_line(
+pub(crate) fn verdict_line(
     alloc: Global,
     image: &Image,
     class: u32,
@@ -65,50 +69,23 @@ pub fn class_text(
     Ok(text)
 }
 
-/// The explanation of a class among all: without a run and calls, and with the end of such a chain alone.
-fn text_among_all(
-    alloc: Global,
-    image: &Image,
-    verdicts: &[Verdict],
-    forced: &Forced,
-    roots: &[usize],
-    known: &mut Knowledge,
-    class: u32,
-) -> Result<String, AllocError>
-    requires known { IsKnown image.now.program verdicts.now known.old }
-    requires roots { AreRoots verdicts.now roots.now }
-    ensures known { IsKnown image.now.program verdicts.now known.new }
-    ensures text { IfOk result
-        (λ text. IsTextAmongAll image.now verdicts.now forced.now class (string_bytes text)) }
-{
-    let program = image.program();
-    let family = program.family();
-    let explanation = known.explain(alloc, program, verdicts, forced, false, class)?;
-    let verdict = verdict_line(alloc, image, class, explanation.verdict)?;
-    let reasons = reason_lines(alloc, family, class, &explanation)?;
-    let ends = ends_text(alloc, family, verdicts, roots, class, explanation.first)?;
-    let text = format!(in alloc; "{verdict}{reasons}{ends}")?;
-    Ok(text)
-}
-
 /// The explanations of the first `count` classes, in the order of their numbers.
 fn each_text(
     alloc: Global,
     image: &Image,
     verdicts: &[Verdict],
     forced: &Forced,
-    roots: &[usize],
+    overview: &mut Overview,
     count: u32,
 ) -> Result<String, AllocError>
-    requires verdicts { length verdicts.now ≡ length image.now.program.classes }
-    requires roots { AreRoots verdicts.now roots.now }
-    ensures { IfOk result
+    requires { IsOverview image.now.program verdicts.now overview.old }
+    ensures known { IsOverview image.now.program verdicts.now overview.new }
+    ensures text { IfOk result
         (λ text. AreEachBelow (IsTextAmongAll image.now verdicts.now forced.now) count (string_bytes text)) }
 {
-    let mut known = Knowledge::of_program(alloc, image.program(), verdicts)?;
     let mut text = String::new(alloc);
     for class in 0..count {
-        let lines = text_among_all(alloc, image, verdicts, forced, roots, &mut known, class)?;
+        let lines = overview.class_text(alloc, image, verdicts, forced, class)?;
         text.push_str(lines.as_str())?;
     }
     Ok(text)
@@ -137,8 +114,36 @@ fn blamed_text(alloc: Global, family: &Family, blamed: &[Blamed]) -> Result<Stri
     Ok(text)
 }
 
-/// The explanations of all classes, without calls and with the ends of chains alone, and then the ten classes for
-/// whose sake the most others stay at run time.
+/// The lines of what accepted classes cost.
+fn cost_lines(alloc: Global, family: &Family, costs: &[Cost]) -> Result<String, AllocError>
+    ensures { IfOk result (λ text. string_bytes text ≡ flat_map (λ found. cost_text family.now found) costs.now) }
+{
+    let mut text = String::new(alloc);
+    for cost in costs {
+        let line = cost_text(alloc, family, *cost)?;
+        text.push_str(line.as_str())?;
+    }
+    Ok(text)
+}
+
+/// The lines of what all accepted classes cost, the dearest first.
+fn costs_text(
+    alloc: Global,
+    image: &Image,
+    verdicts: &[Verdict],
+    budget: u64,
+) -> Result<String, AllocError>
+    requires { length verdicts.now ≡ length image.now.program.classes }
+    ensures { IfOk result (λ text. IsCostsText image.now verdicts.now budget (string_bytes text)) }
+{
+    let costs = costs_of(alloc, image, verdicts, budget)?;
+    let dearest = dearest_first(alloc, costs.as_slice())?;
+    let text = cost_lines(alloc, image.program().family(), dearest.as_slice())?;
+    Ok(text)
+}
+
+/// The explanations of all classes, without calls and with the ends of chains alone; then the ten classes for whose
+/// sake the most others stay at run time; and then what each accepted class costs, the dearest first.
 ///
 /// # Errors
 /// Where memory runs out.
@@ -147,16 +152,18 @@ pub fn all_text(
     image: &Image,
     verdicts: &[Verdict],
     forced: &Forced,
+    budget: u64,
 ) -> Result<String, AllocError>
     requires { length verdicts.now ≡ length image.now.program.classes }
-    ensures { IfOk result (λ text. IsAllText image.now verdicts.now forced.now (string_bytes text)) }
+    ensures { IfOk result (λ text. IsAllText image.now verdicts.now forced.now budget (string_bytes text)) }
 {
     let program = image.program();
     let count = program.given_count();
-    let roots = roots_of(alloc, verdicts)?;
-    let each = each_text(alloc, image, verdicts, forced, roots.as_slice(), count)?;
-    let most = most_blamed(alloc, roots.as_slice(), 10)?;
+    let mut overview = Overview::of_program(alloc, program, verdicts)?;
+    let each = each_text(alloc, image, verdicts, forced, &mut overview, count)?;
+    let most = overview.most_blamed(alloc, 10)?;
     let blamed = blamed_text(alloc, program.family(), most.as_slice())?;
-    let text = format!(in alloc; "{each}{blamed}")?;
+    let costs = costs_text(alloc, image, verdicts, budget)?;
+    let text = format!(in alloc; "{each}{blamed}{costs}")?;
     Ok(text)
 }

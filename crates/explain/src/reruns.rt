@@ -1,6 +1,6 @@
 //! A class's initializer once more, for what it costs.
 
-ghost use Rattle.std.specs.Prelude.{◌≡◌, ◌≢◌, ℕ, None, true, false, IfOk, OnOk};
+ghost use Rattle.std.specs.Prelude.{◌≡◌, ◌≢◌, ◌<◌, ◌≤◌, ℕ, None, true, false, IfOk, OnOk};
 ghost use Rattle.std.specs.Bool.{MatchBool};
 ghost use Rattle.semantics.specs.Quiet.{OverBudget, Refused};
 ghost use Rattle.machine.specs.Linked.{program_of};
@@ -78,6 +78,19 @@ fn other_regions(alloc: Global, image: &Image, class: u32) -> Result<Regions, Al
     Ok(regions)
 }
 
+/// Copies of the regions of an image.
+pub(crate) fn all_regions(alloc: Global, image: &Image) -> Result<Regions, AllocError>
+    ensures { IfOk result (λ regions. environment_of regions ≡ environment_of image.now.regions) }
+{
+    // What holds of every image: given classes alone have regions.
+    let _first = image.region(0);
+    let mut regions = Regions::none(alloc);
+    for class in 0..image.program().given_count() {
+        add_region(alloc, image, class, &mut regions)?;
+    }
+    Ok(regions)
+}
+
 /// Whether what stops an initializer is its cost.
 fn is_cost(halt: Halt) -> bool
     ensures yes { result ≡ true → stop_of halt ≡ Refused OverBudget }
@@ -120,32 +133,92 @@ fn costs_more(
     Ok(over)
 }
 
-/// The least budget that an initializer does not cost more than, or the greatest.
+/// The nearest to a wish that is still open: too little are those below `low`, and `high` is enough.
+fn nearest(wish: u64, low: u64, high: u64) -> u64
+    requires { low < high }
+    ensures low { low ≤ result }
+    ensures high { result < high }
+{
+    if wish < low {
+        low
+    } else if wish < high {
+        wish
+    } else {
+        high - 1
+    }
+}
+
+/// Where to try next once all below `low` are known to be too little: not far above, but no further than half the way.
+fn upwards(low: u64, high: u64, stride: u64) -> u64 {
+    let half = high.saturating_sub(low) / 2;
+    low.saturating_add(stride.min(half))
+}
+
+/// Where to try next once `high` is known to be enough: not far below, but no further than half the way.
+fn downwards(low: u64, high: u64, stride: u64) -> u64 {
+    let half = high.saturating_sub(low) / 2;
+    high.saturating_sub(1).saturating_sub(stride.min(half))
+}
+
+/// The least budget that an initializer does not cost more than, or the greatest. Tries begin just below a guess, and
+/// their strides double, so that there are two where the guess is right, and few where it is near.
 fn least_budget(
     alloc: Global,
     program: &Program,
     regions: &Regions,
     class: u32,
     greatest: u64,
+    guess: u64,
 ) -> Result<u64, AllocError>
     ensures { IfOk result
         (IsLeast (program_of program.now) (environment_of regions.now) class greatest) }
 {
     let mut low = 0;
     let mut high = greatest;
+    let mut wish = guess.saturating_sub(1);
+    let mut stride = 0u64;
     while low < high {
-        let middle = low + (high - low) / 2;
+        let middle = nearest(wish, low, high);
         if costs_more(alloc, program, regions, class, middle)? {
             low = middle + 1;
+            wish = upwards(low, high, stride);
         } else {
             high = middle;
+            wish = downwards(low, high, stride);
         }
+        stride = stride.saturating_mul(2).saturating_add(1);
     }
     Ok(low)
 }
 
+/// The least budget that the initializer of a class does not cost more than, or the greatest, where all other regions
+/// of these are at hand. It is searched from a guess.
+#[tactic(auto, using(crate::proofs::TakenLemmas::of_taken))]
+pub(crate) fn least_without(
+    alloc: Global,
+    program: &Program,
+    regions: &mut Regions,
+    class: u32,
+    greatest: u64,
+    guess: u64,
+) -> Result<u64, AllocError>
+    ensures same { environment_of regions.new ≡ environment_of regions.old }
+    ensures least { IfOk result
+        (IsLeast (program_of program.now) (without (environment_of regions.old) class) class greatest) }
+{
+    let own = regions.take(class);
+    let found = least_budget(alloc, program, regions, class, greatest, guess);
+    match own {
+        Some(own) => {
+            regions.set(class, own);
+            found
+        }
+        None => found,
+    }
+}
+
 /// Runs the initializer of a class within the least budget in which it does not cost too much, with copies of the
-/// image's regions of the other classes at hand. It takes as many runs as the greatest budget has bits.
+/// image's regions of the other classes at hand.
 ///
 /// # Errors
 /// Where memory runs out.
@@ -159,7 +232,7 @@ pub fn run_again(
 {
     let program = image.program();
     let regions = other_regions(alloc, image, class)?;
-    let budget = least_budget(alloc, program, &regions, class, greatest)?;
+    let budget = least_budget(alloc, program, &regions, class, greatest, 0)?;
     let evaluation = evaluate(alloc, program, &regions, class, budget)?;
     Ok(Rerun { budget, evaluation })
 }

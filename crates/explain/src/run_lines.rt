@@ -2,24 +2,46 @@
 
 ghost use Rattle.std.specs.Prelude.{◌≡◌, IfOk, string_bytes};
 ghost use Rattle.region_shape.specs.Regions.{environment_of};
+ghost use Rattle.explain.specs.Costs.{cost_text};
 ghost use Rattle.explain.specs.Texts.{is_of_run, made_count, IsCostLine, IsRunText, IsStopText};
 
+use crate::costs::Cost;
 use crate::reruns::run_again;
 use crate::sizes::region_size;
 use crate::stops::stop_within;
 use crate::words::{line, place_line};
 use initializer_analysis::verdict::{Reason, Verdict};
+use loading::family::Family;
 use object_graph::Image;
 use std::alloc::{AllocError, Global};
 
 /// How many objects the initializer of a class made.
-fn made_count(image: &Image, class: u32) -> u64
+pub(crate) fn made_count(image: &Image, class: u32) -> u64
     ensures { result ≡ made_count (environment_of image.now.regions class) }
 {
     match image.region(class) {
         Some(region) => region.objects.count(),
         None => 0,
     }
+}
+
+/// The line of what an accepted class costs: the cost of its initializer, how many objects it made and how many of
+/// these are kept, and how many bytes they take in the image with the static fields.
+///
+/// # Errors
+/// Where memory runs out.
+pub fn cost_text(alloc: Global, family: &Family, found: Cost) -> Result<String, AllocError>
+    ensures { IfOk result (λ text. string_bytes text ≡ cost_text family.now found) }
+{
+    let Cost {
+        class,
+        cost,
+        made,
+        kept,
+        bytes,
+    } = found;
+    let words = format!(in alloc; "cost {cost} made {made} kept {kept} bytes {bytes}")?;
+    line(alloc, family, class, words.as_str())
 }
 
 /// The cost of an accepted class's initializer, how many objects it made and how many of these are kept, and how many

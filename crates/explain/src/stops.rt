@@ -20,7 +20,7 @@ use vm_state::shared::Shared;
 use vm_state::value::Maker;
 
 /// Puts a copy of the region of a class in place, where an image has one.
-fn put_region(
+pub(crate) fn put_region(
     alloc: Global,
     image: &Image,
     class: u32,
@@ -48,7 +48,7 @@ fn begun(alloc: Global, image: &Image, class: u32) -> Result<Shared, AllocError>
 }
 
 /// The stack of a thread in which the initializer of a class begins.
-fn stack_on(alloc: Global, class: u32, innermost: Frame) -> Result<Frames, AllocError> {
+pub(crate) fn stack_on(alloc: Global, class: u32, innermost: Frame) -> Result<Frames, AllocError> {
     let left = ParentsLeft::of(alloc, &[])?;
     let highest = Level {
         initialization: Initialization {
@@ -121,7 +121,7 @@ fn elements_from(shared: &Shared, class: u32, place: usize) -> u64 {
 }
 
 /// One instruction of the initializer of a class, and what it costs; nothing where the initializer is stopped at it.
-fn pay(
+pub(crate) fn pay(
     alloc: Global,
     program: &Program,
     class: u32,

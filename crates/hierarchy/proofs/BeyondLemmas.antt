@@ -23,8 +23,8 @@ use Rattle.loading.proofs.SubstitutesLemmas.{all_substitutes}
 use Rattle.hierarchy.specs.Initialization.{AreSuperclasses, none, next, given_superclasses}
 use Rattle.hierarchy.specs.Subclasses.{is_above}
 use Rattle.hierarchy.specs.Subtypes.{built_in_above, built_in_above_if, built_in_of, end_of_chain, is_above_built_in}
-use Rattle.hierarchy.specs.Subtypes.{is_reached, is_reached_from, substitutes_in, up_in}
-use Rattle.hierarchy.specs.steps.Beyond.{IsUp, is_by_way_of, is_directly_below, is_end, is_under}
+use Rattle.hierarchy.specs.Subtypes.{IsUp, is_reached, is_reached_from, substitutes_in, up_in}
+use Rattle.hierarchy.specs.steps.Beyond.{is_by_way_of, is_directly_below, is_end, is_under}
 use Rattle.hierarchy.specs.steps.Tops.{IsTop, direct, further as one_above}
 use Rattle.hierarchy.proofs.AboveLemmas.{ancestor_of_parent}
 use Rattle.hierarchy.proofs.InitializationLemmas.{superclasses_of}
@@ -140,6 +140,10 @@ or_left false q is = absurd cc
 or_right : (p q : Bool) → q ≡ true → (p || q) ≡ true
 or_right true q is = refl
 or_right false q is = is
+
+or_false : (p : Bool) → (p || false) ≡ p
+or_false true = refl
+or_false false = refl
 
 both_true : (p q : Bool) → p ≡ true → q ≡ true → (p && q) ≡ true
 both_true true q is also = also
@@ -397,3 +401,11 @@ module _ (family : Family) (fits : IsFamily family) (within : AreParentsWithin f
           or_right (is_under family c (Some d)) (list_any (is_by_way_of family c d) all_built_in)
           (list_any_at (is_by_way_of family c d) all_built_in (number_of_built_in b) builtins.Object (small b)
           (ap (is_by_way_of family c d) (stands_at b) ∙ under_way c d s b directly to path))
+
+  -- without the library
+  pub reached_by_parents : (c d : ℕ) → substitute_in family builtins.Object ≡ None
+      → is_reached family c d ≡ (eqb c d || is_above family c d)
+  reached_by_parents c d gone =
+      sym (reached_decides c d)
+      ∙ ap (λ (t : Bool). is_under family c (Some d) || t) (no_way family c d gone all_built_in)
+      ∙ or_false (eqb c d || is_above family c d)

@@ -12,8 +12,8 @@ use Rattle.loading.specs.Families.{Family, AreParentsWithin, parents_in, substit
 use Rattle.loading.proofs.SubstitutesLemmas.{substitute_within}
 use Rattle.graph.specs.Rows.{Rows, successors_of}
 use Rattle.graph.specs.Reaches.{Reaches}
-use Rattle.hierarchy.specs.Subtypes.{built_in_above, is_reached, reached_within, substitutes_in, up_in}
-use Rattle.hierarchy.specs.steps.Beyond.{IsGraphUp, IsUp}
+use Rattle.hierarchy.specs.Subtypes.{IsUp, built_in_above, is_reached, reached_within, substitutes_in, up_in}
+use Rattle.hierarchy.specs.steps.Beyond.{IsGraphUp}
 use Rattle.hierarchy.proofs.FirstsLemmas.{has_tells}
 use Rattle.hierarchy.proofs.InitializationLemmas.{listed}
 use Rattle.hierarchy.proofs.SubclassesLemmas.{first_of, later_of}

@@ -1,7 +1,7 @@
 -- Which classes are below which, as checkcast, instanceof, aastore and handlers ask it (JVMS 6.5; 4.10.1.2).
 use Rattle.std.specs.Prelude.{ℕ, zero, suc, ◌==◌, nat_lt, Bool, false, ◌&&◌, List, [], ◌∷◌, ◌++◌, length, Option}
 use Rattle.std.specs.Prelude.{Some, None, option_to_list, if◌then◌else◌}
-use Rattle.std.specs.List.{flat_map, list_any}
+use Rattle.std.specs.List.{Contains, flat_map, list_any}
 use Rattle.built_in.specs.ClassNames.{all_built_in}
 use Rattle.built_in.specs.Subclasses.{superclasses_of_built_in, is_same_built_in, is_built_in_below}
 use Rattle.built_in.specs.declared.class_id.ArrayType.{ArrayType}
@@ -62,6 +62,11 @@ built_in_above family c = built_in_of (superclass_in family c)
 -- One step up from a given class: to a parent, or to the substitute of such a built-in class.
 abbrev pub up_in : Family → ℕ → List ℕ
 up_in family c = parents_in family c ++ substitutes_in family (built_in_above family c)
+
+-- along no step or more
+pub data IsUp (family : Family) (c : ℕ) : ℕ → Type 0 where
+  itself : IsUp family c c
+  along : {d e : ℕ} → IsUp family c d → Contains (up_in family d) e → IsUp family c e
 
 -- a given class and what is reached from it by at most so many steps
 abbrev pub reached_within : ℕ → Family → ℕ → List ℕ

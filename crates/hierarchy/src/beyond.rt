@@ -1,5 +1,5 @@
-//! What is reached from the substitutes of the built-in classes by steps up, where the library is there: a class is below
-//! a built-in one where it is below that one's substitute.
+//! What is reached from the substitutes of the built-in classes by steps up, where the library is there: a class is
+//! below a built-in one where it is below that one's substitute.
 
 ghost use Rattle.std.specs.Prelude.{◌≡◌, ◌↔◌, ℕ, ◌<◌, ◌++◌, length, option_to_list, slice_get, IsTrue, IfOk, OnOk};
 ghost use Rattle.graph.specs.Rows.{successors_of};

@@ -168,8 +168,8 @@ impl<R: Wait, E: Write> ProgressLine<'_, R, E> {
     }
 }
 
-/// What a build took that began then, for the end of the line on what it came to: its time, and the most memory that the
-/// process had, where the system says so.
+/// What a build took that began then, for the end of the line on what it came to: its time, and the most memory that
+/// the process had, where the system says so.
 pub fn taken<R: Clock + rt::Files + AllocGlobal>(rt: &R, began: Instant) -> Option<String> {
     let Ok(time) = began.elapsed(rt) else {
         return None;

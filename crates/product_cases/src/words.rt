@@ -43,9 +43,10 @@ fn of_request(answer: &mut Answer, request: &Request<'_>) {
         Request::Explain(explain) => add_explain(answer, explain),
         Request::Inspect(inspect) => add_inspect(answer, inspect),
         Request::Lazy(lazy) => add_lazy(answer, lazy),
-        Request::Report(building) => {
+        Request::Report(report) => {
             answer.word("report");
-            add_building(answer, building)
+            add_building(answer, &report.building);
+            add_named(answer, " page", report.page)
         }
         Request::Renew(renew) => add_renew(answer, renew),
         Request::Replay(replay) => add_replay(answer, replay),
@@ -132,7 +133,8 @@ fn add_build(answer: &mut Answer, build: &Build<'_>) {
     }
     answer.bracketed(build.image);
     add_building(answer, &build.building);
-    add_named(answer, " report", build.report)
+    add_named(answer, " report", build.report);
+    add_named(answer, " page", build.page)
 }
 
 /// What the words of a build ask for, after the command.

@@ -188,8 +188,8 @@ pub fn stack_lines(
     Ok(text)
 }
 
-/// The innermost place of each thread that has ended by a fault, or by an exception that nothing caught, before its last
-/// step: a line for each, with what is left out there.
+/// The innermost place of each thread that has ended by a fault, or by an exception that nothing caught, before its
+/// last step: a line for each, with what is left out there.
 ///
 /// # Errors
 /// `AllocError` where memory is refused.

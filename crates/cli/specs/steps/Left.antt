@@ -1,12 +1,16 @@
 -- What parts of a command leave of files where they are refused, or fail.
-use Rattle.std.specs.Prelude.{◌≡◌, ◌≢◌, ◌⊎◌, ℕ, List, Option, Result, Ok, Err, IfSome, Some, ⊤}
+use Rattle.std.specs.Prelude.{◌≡◌, ◌≢◌, ◌⊎◌, ℕ, List, Option, Result, Ok, Err, IfSome, Some, None, ⊤}
 use Rattle.std.specs.Borrow.{Bor}
 use Rattle.semantics.specs.Worlds.{World}
 use Rattle.program.specs.Tables.{Tables}
 use Rattle.command_line.specs.declared.request.Run.{Run}
 use Rattle.cli.specs.Done.{IsWritten}
 use Rattle.cli.specs.Files.{AreBytesOf, Contents, OthersStay}
-use Rattle.cli.specs.Left.{HasJournal, OthersStayIf}
+use Rattle.cli.specs.Left.{HasJournal, IsToldAlone, OnlyOutputsChange, OthersStayIf}
+use Rattle.cli.specs.Pages.{IsPagePut}
+use Rattle.cli.specs.declared.build_texts.BuildTexts.{BuildTexts}
+use Rattle.command_line.specs.declared.request.Build.{Build}
+use Rattle.command_line.specs.declared.request.Request.TheVariants as requests
 use Rattle.cli.specs.CommandFault.{refusal_status}
 use Rattle.cli.specs.declared.fault.CommandFault.{CommandFault}
 use Rattle.cli.specs.declared.status.Status.{Status}
@@ -23,12 +27,10 @@ LeavesFile old new name Refused = new ≡ old
 LeavesFile old new name Failed = OthersStay old new name
 LeavesFile old new name _ = ⊥
 
--- the report's file has its text, and no other was changed
-pub record IsToldAlone (old new : Contents) (report : Option (Bor (List ℕ))) (text : List ℕ) : Type 0 where
-  pub name : Bor (List ℕ)
-  pub named : report ≡ Some name
-  pub written : AreBytesOf (new name.now) text
-  pub others : OthersStay old new name.now
+-- the same where there may be no such file
+abbrev pub LeavesIf : Contents → Contents → Option (Bor (List ℕ)) → Status → Type 0
+LeavesIf old new None status = ⊥
+LeavesIf old new (Some name) status = LeavesFile old new name.now status
 
 -- the same of the files for an image and, where there is one, for a report of this text, which is written first
 abbrev pub LeavesTexts : Contents → Contents → List ℕ → Option (Bor (List ℕ)) → List ℕ → Status → Type 0
@@ -36,6 +38,14 @@ LeavesTexts old new image report text Refused = (new ≡ old) ⊎ IsToldAlone ol
 LeavesTexts old new image report text Failed =
     (other : List ℕ) → other ≢ image → IfSome report (λ name. other ≢ name.now) → new other ≡ old other
 LeavesTexts old new image report text _ = ⊥
+
+-- the same after a page is written of this text, where there is a file for one, which comes first
+abbrev pub LeavesAll : Contents → Contents → Build → BuildTexts → Status → Type 0
+LeavesAll old new words made Refused =
+    (new ≡ old) ⊎ ((between : Contents) × IsPagePut old between words.page made.page.items
+    × LeavesTexts between new words.image.now words.report made.report.items Refused)
+LeavesAll old new words made Failed = OnlyOutputsChange old new (requests.Build words)
+LeavesAll old new words made _ = ⊥
 
 -- what becomes of the file for the journal of a run, if there is one, where its command ends so
 abbrev pub LeavesJournal : Contents → Contents → Option (Bor (List ℕ)) → List ℕ → Status → Type 0

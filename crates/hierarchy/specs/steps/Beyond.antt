@@ -15,11 +15,6 @@ use Rattle.hierarchy.specs.Subtypes.{built_in_above_if, built_in_of, end_of_chai
 use Rattle.hierarchy.specs.Subtypes.{up_in}
 use Rattle.hierarchy.specs.declared.beyond.Beyond.{Beyond}
 
--- along no step or more
-pub data IsUp (family : Family) (c : ℕ) : ℕ → Type 0 where
-  itself : IsUp family c c
-  along : {d e : ℕ} → IsUp family c d → Contains (up_in family d) e → IsUp family c e
-
 -- the graph of steps up
 pub record IsGraphUp (family : Family) (graph : Rows) : Type 0 where
   pub count : length graph ≡ length family

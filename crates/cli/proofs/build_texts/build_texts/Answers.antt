@@ -12,4 +12,4 @@ texts_of_watched-requires g c = record {
 
 pub returns-in-Ok-texts_of_watched : goal.returns-in-Ok-texts_of_watched
 returns-in-Ok-texts_of_watched g c =
-    c.in-Ok-texts_of_watched.ensures (texts_of c.args.files.now) c.args.options.now c.in-Ok.ensures.build
+    c.in-Ok-texts_of_watched.ensures (texts_of c.args.files.now) c.in-Ok.ensures.build

@@ -17,5 +17,7 @@ returns c =
       blamed = blamed;
       has_blamed = subst (λ (family : Family). AreAtMost 10 (IsBlamedLine family) blamed)
           (c.family.ensures ∙ ap (λ (P : Tables). P.family) c.program-program.ensures) c.in_ok-blamed.ensures;
+      costs = string_bytes c.in_ok-costs.costs;
+      has_costs = c.in_ok-costs.ensures;
       is = c.in_ok-text.ensures.ok;
     }

@@ -1,0 +1,2 @@
+pub mod EscapesLemmas
+pub mod CountsLemmas
