@@ -2,9 +2,9 @@
 use Rattle.std.proofs.Common.{◌≡◌, ℕ, zero, suc, ◌+◌, ◌*◌, ◌/◌, ◌%◌, ◌≤◌, ◌<◌, ◌^◌, Bool, true, false, ◌&&◌, ltb}
 use Rattle.std.proofs.Common.{List, [], ◌∷◌, ◌++◌, length, refl, sym, ap, ◌∙◌, arith, inl, inr, if◌then◌else◌}
 use Rattle.std.specs.Prelude.{Option, Some, None, map, unwrap_or}
-use Rattle.std.specs.List.{All}
+use Rattle.std.specs.List.{All, AllByRecursion}
 use Rattle.std.specs.Char.Utf16.{utf16_chars, is_high_surrogate, is_low_surrogate, surrogate_pair_char, lone_unit_char}
-use Rattle.std.proofs.lemmas.Bool.{lt-ltb, le-ltb, cases_lt}
+use Rattle.std.proofs.lemmas.Bool.{lt-ltb, le-ltb, ltb-true, cases_lt}
 use Rattle.std.proofs.lemmas.List.Elements.{All-head, All-tail}
 use Rattle.classfile.specs.Units.{unit_text, units_text, IsModifiedUtf8}
 use Rattle.classfile.specs.Printing.{unit_of_two, unit_of_three, units_of, printed_chars, printed_units}
@@ -175,3 +175,36 @@ pair_at units rest after u v c front next is = rw (front, next) (pair_char u v c
 pub lone_at : (units rest after : List ℕ) (u v c : ℕ) → units ≡ u ∷ rest → rest ≡ v ∷ after →
     char_of_pair u v ≡ None → c ≡ unwrap_or (lone_unit_char u) 63 → printed_chars units ≡ c ∷ printed_chars rest
 lone_at units rest after u v c front next none is = rw (front, next, is) (lone_char u v after none)
+
+-- ---- each has 16 bits
+
+AreUnits : List ℕ → Type 0
+AreUnits units = AllByRecursion (λ (u : ℕ). u < 2 ^ 16) units
+
+of_either : (b : Bool) (us vs : List ℕ) → (b ≡ true → AreUnits us) → AreUnits vs → AreUnits (if b then us else vs)
+of_either true us vs one other = one refl
+of_either false us vs one other = other
+
+one_fits : (a : ℕ) → ltb a 192 ≡ true → a < 2 ^ 16
+one_fits a is = let low : a < 192 = ltb-true a 192 is in omega (arith, low)
+
+two_fits : (a b : ℕ) → unit_of_two a b < 2 ^ 16
+two_fits a b = omega arith
+
+three_fits : (a b c : ℕ) → unit_of_three a b c < 2 ^ 16
+three_fits a b c = omega arith
+
+pub each_fits : (bytes : List ℕ) → AreUnits (units_of bytes)
+unfolding units_of
+each_fits [] = tt
+each_fits (a ∷ []) = of_either (ltb a 192) (a ∷ []) [] (λ is. (one_fits a is, tt)) tt
+each_fits (a ∷ b ∷ []) =
+    of_either (ltb a 192) (a ∷ units_of (b ∷ [])) (if ltb a 224 then unit_of_two a b ∷ [] else [])
+    (λ is. (one_fits a is, each_fits (b ∷ [])))
+    (of_either (ltb a 224) (unit_of_two a b ∷ []) [] (λ is. (two_fits a b, tt)) tt)
+each_fits (a ∷ b ∷ c ∷ rest) =
+    of_either (ltb a 192) (a ∷ units_of (b ∷ c ∷ rest))
+    (if ltb a 224 then unit_of_two a b ∷ units_of (c ∷ rest) else unit_of_three a b c ∷ units_of rest)
+    (λ is. (one_fits a is, each_fits (b ∷ c ∷ rest)))
+    (of_either (ltb a 224) (unit_of_two a b ∷ units_of (c ∷ rest)) (unit_of_three a b c ∷ units_of rest)
+    (λ is. (two_fits a b, each_fits (c ∷ rest))) (three_fits a b c, each_fits rest))

@@ -29,3 +29,4 @@ pub mod OneProgramLemmas
 pub mod ZerosLemmas
 pub mod FirstFoundLemmas
 pub mod FramesLemmas
+pub mod ClassNumbersLemmas

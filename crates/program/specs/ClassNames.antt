@@ -1,7 +1,7 @@
 -- What a program may ask of the class of an object, where the library is there: its name and its number. A built-in
 -- class and its substitute are one, with the name of the built-in one.
 use Rattle.std.specs.Prelude.{ℕ, ℤ, ◌+◌, ◌*◌, ◌%◌, ◌^◌, ◌==◌, ◌++◌, Bool, false, List, [], ◌∷◌, Option, Some, None}
-use Rattle.std.specs.Prelude.{codes, map, replicate, slice_index_or, if◌then◌else◌}
+use Rattle.std.specs.Prelude.{true, ◌&&◌, nat_lt, codes, map, replicate, slice_index_or, if◌then◌else◌}
 use Rattle.std.specs.Int.{w32, cast_signed}
 use Rattle.std.specs.List.{find}
 use Rattle.classfile.specs.Printing.{units_of}
@@ -106,3 +106,14 @@ number_of (class.Array a) = 65536 + 256 * (1 + element_number a.element) + a.dim
 -- is neither given nor built in comes by an image alone: of more than 2^23 strings the numbers could begin anew.)
 abbrev pub class_number : Family → ClassId → ℤ
 class_number family x = cast_signed w32 (number_of (replaced family x) % 2 ^ 32)
+
+-- whether the number of a class tells it apart: objects of others come by an image alone
+abbrev pub is_numbered_element : ElementType → Bool
+is_numbered_element (element.Given c) = nat_lt c 65536
+is_numbered_element (element.Unknown n) = nat_lt n (2 ^ 23)
+is_numbered_element _ = true
+
+abbrev pub is_numbered : ClassId → Bool
+is_numbered (class.Given c) = nat_lt c 65536
+is_numbered (class.BuiltIn b) = true
+is_numbered (class.Array a) = nat_lt a.dimensions 256 && is_numbered_element a.element

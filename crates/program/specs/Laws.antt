@@ -1,9 +1,11 @@
 -- What class files determine, whatever their order: each definition of a linked program has one answer.
-use Rattle.std.specs.Prelude.{◌≡◌, ℕ, List, Option}
+use Rattle.std.specs.Prelude.{◌≡◌, ℕ, true, List, Option}
 use Rattle.std.specs.List.Sorted.{IsPermutation}
 use Rattle.classfile.specs.ClassFile.{ClassFile}
 use Rattle.classfile.specs.declared.exceptions.ExceptionHandler.{ExceptionHandler}
 use Rattle.classfile.specs.declared.member.Member.{Member}
+use Rattle.built_in.specs.declared.class_id.ClassId.{ClassId}
+use Rattle.loading.specs.ClassIds.{replaced}
 use Rattle.loading.specs.Families.{Family, IsFamily, IsFamilyOf}
 use Rattle.loading.specs.Files.{LinkFails, Links}
 use Rattle.loading.specs.declared.fault.LinkFault.{LinkFault}
@@ -14,6 +16,7 @@ use Rattle.program.specs.declared.handler.Handler.{Handler}
 use Rattle.program.specs.declared.runtime_constant.RuntimeConstant.{RuntimeConstant}
 use Rattle.program.specs.declared.signature.ReturnKind.{ReturnKind}
 use Rattle.program.specs.declared.signature.Signature.{Signature}
+use Rattle.program.specs.ClassNames.{class_number, is_numbered}
 use Rattle.program.specs.Handlers.{IsHandler}
 use Rattle.program.specs.Programs.{HasOwnStrings, IsLinkedClass, IsImplementation, IsProgram}
 use Rattle.program.specs.RuntimePool.{IsRuntimePool}
@@ -66,6 +69,14 @@ OneHandler = (family : Family) (f : ClassFile) (entry : ExceptionHandler) (a b :
 abbrev pub OneImplementation : Type 0
 OneImplementation = (family : Family) (f : ClassFile) (m : Member) (a b : Implementation) → IsFamily family
     → IsImplementation family f m a → IsImplementation family f m b → a ≡ b
+
+-- ---- the numbers of classes, where a library asks for them
+
+-- two numbered classes with one number are one, a built-in class and its substitute being one
+abbrev pub NumbersTellApart : Type 0
+NumbersTellApart = (family : Family) (x y : ClassId) → is_numbered (replaced family x) ≡ true
+    → is_numbered (replaced family y) ≡ true → class_number family x ≡ class_number family y
+    → replaced family x ≡ replaced family y
 
 -- ---- a whole class, and the program
 

@@ -1,7 +1,7 @@
 //! What class files determine, whatever their order.
 
 ghost use Rattle.program.specs.Laws.{StillLink, StillFail, StillFamily, OneFamily, OneClass, OneProgram};
-ghost use Rattle.program.specs.Laws.{OneProgramOfFiles, OneProgramOfStrings};
+ghost use Rattle.program.specs.Laws.{NumbersTellApart, OneProgramOfFiles, OneProgramOfStrings};
 
 /// Files that link do so in any order, those that do not have the same fault, and a family of files is one of them in
 /// any order (JVMS 5.3.5).
@@ -27,4 +27,9 @@ pub fn one_program()
     ensures strings { OneProgramOfStrings }
     ensures family { OneProgram }
     ensures files { OneProgramOfFiles }
+{}
+
+/// The numbers that a library's classes ask for tell classes apart.
+pub fn numbers_tell_apart()
+    ensures { NumbersTellApart }
 {}

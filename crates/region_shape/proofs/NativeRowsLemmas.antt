@@ -1,6 +1,10 @@
 -- The natives of a library keep shape, and so does what is asked of the strings that it makes.
-use Rattle.std.proofs.Common.{ℕ, List, [], ◌∷◌, Option, Some, None, length, map, pos, refl, inl, arith}
+use Rattle.std.proofs.Common.{◌≡◌, ℕ, ◌<◌, ◌^◌, ◌==◌, Bool, true, false, List, [], ◌∷◌, Option, Some, None, length, map}
+use Rattle.std.proofs.Common.{refl, inl, arith, nat_lt, if◌then◌else◌}
 use Rattle.std.specs.List.{AllByRecursion}
+use Rattle.std.proofs.lemmas.Bool.{lt-ltb}
+use Rattle.classfile.specs.Printing.{units_of}
+use Rattle.classfile.proofs.PrintingLemmas.{each_fits}
 use Rattle.built_in.specs.declared.class_id.BuiltIn.TheVariants.{IndexOutOfBoundsException, NullPointerException}
 use Rattle.built_in.specs.declared.class_id.ClassId.{ClassId}
 use Rattle.built_in.specs.declared.class_id.ClassId.TheVariants.{Array}
@@ -13,7 +17,7 @@ use Rattle.vm_state.specs.Operands.{top_int, rest}
 use Rattle.vm_state.specs.Values.{name_of, value_of}
 use Rattle.semantics.specs.Moves.{with_operands}
 use Rattle.semantics.specs.Rows.{AskClass, Row, int_length}
-use Rattle.program.specs.ClassNames.{class_number, class_units}
+use Rattle.program.specs.ClassNames.{class_name, class_number, class_units, dotted}
 use Rattle.program.specs.Tables.{Tables}
 use Rattle.program.specs.declared.native.Native.{Native}
 use Rattle.program.specs.declared.native.Native.TheVariants as natives
@@ -34,9 +38,16 @@ use Rattle.region_shape.proofs.ObjectRowsLemmas.{throw_keeps}
 use Rattle.region_shape.proofs.RowPartsLemmas.{ask_class_keeps, either, halted, makes, on_name_keeps, on_object_keeps}
 use Rattle.region_shape.proofs.RowPartsLemmas.{push_ends, pushes, raised}
 
-chars_suit : (units : List ℕ) → AllByRecursion (λ v. suits (stored_as kinds.Char) v ≡ true) (map char_of units)
-chars_suit [] = tt
-chars_suit (u ∷ us) = (refl, chars_suit us)
+one_fits : (b : Bool) (u : ℕ) → u < 2 ^ 16 → (if b then 46 else u) < 2 ^ 16
+one_fits true u fits = omega arith
+one_fits false u fits = fits
+
+chars_suit : (units : List ℕ) → AllByRecursion (λ (u : ℕ). u < 2 ^ 16) units
+    → AllByRecursion (λ v. suits (stored_as kinds.Char) v ≡ true) (map char_of (map dotted units))
+chars_suit [] each = tt
+chars_suit (u ∷ us) (fits, each) =
+    let below : nat_lt (dotted u) (2 ^ 16) ≡ true = lt-ltb (dotted u) (2 ^ 16) (one_fits (u == 47) u fits) in
+    (rw below refl, chars_suit us each)
 
 module _ (P : Tables) (types : Types) where
   abbrev Keeps : Row → Type 0
@@ -82,7 +93,7 @@ module _ (P : Tables) (types : Types) where
         with_class_keeps v _ (λ class.
         makes P types (Array chars) (map char_of (class_units P class))
         (λ x. push (value_of x) (with_operands f (rest f.operands))) (inl (omega arith, refl))
-        (chars_suit (class_units P class))
+        (chars_suit (units_of (class_name P class)) (each_fits (class_name P class)))
         (λ x. push_ends (value_of x) (with_operands f (rest f.operands)))))
     native_keeps natives.ClassNumber =
         needing_any Keeps (halted P types) (top_as Reference f.operands) _ (λ v is.
