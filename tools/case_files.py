@@ -9,6 +9,7 @@ the round, from 0 on, `<1>` one more, and `<->` the number of those that follow.
 and U+0000 and U+007F are `\\u0000` and `\\u007F`.
 """
 import functools
+import glob
 import os
 import re
 from dataclasses import dataclass
@@ -28,6 +29,11 @@ class Row:
     given: str
     asked: str
     wanted: str
+
+
+def runs() -> list[str]:
+    """The files of runs but those of a library, which neither the second interpreter nor a JVM knows."""
+    return [path for path in sorted(glob.glob(f"{RUNS}/*.txt")) if not os.path.basename(path).startswith("library")]
 
 
 def repeated(text: str, between: str) -> str:

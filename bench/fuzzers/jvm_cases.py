@@ -1,7 +1,7 @@
 #!/usr/bin/env python3
 """Asks the JVM at hand the questions of questions/runs, and compares what it shows with their answers.
 
-  bench/fuzzers/jvm_cases.py [--list] [FILE..]     these files of data/runs, or all, and then the programs of data/java
+  bench/fuzzers/jvm_cases.py [--list] [FILE..]     these files of questions/runs, or all, and then the programs of java
 
 Each question's classes are put together here, from its text, as files of version 49, whose verifier needs no stack
 maps, or of version 52 where an interface has code or is called by name. `new` gets a call of a constructor that does
@@ -12,11 +12,10 @@ as a LinkageError (the verifier's, or that of resolution), Missing as an error o
 What the verifier refuses, and runs here, since operands are asked for their kinds one by one, is counted apart, and so
 are classes that a JVM's reader of class files refuses (an interface with an instance field), and access checks, which
 are not made here; `--list` shows each. It ends in 1 where anything else differs that
-DIFFERENCES does not name.
+DIFFERENCES does not name. Questions of a library are left out: its classes are no JVM's.
 
 Of the programs of data/java, which the crate's `args` name with their texts, all run but those that end with a Fault.
 """
-import glob
 import os
 import re
 import subprocess
@@ -158,7 +157,7 @@ def line_of(question):
 def asked_for():
     names = [name for name in sys.argv[1:] if name != "--list"]
     paths = [os.path.join(case_files.RUNS, name) for name in names]
-    for path in paths or sorted(glob.glob(os.path.join(case_files.RUNS, "*.txt"))):
+    for path in paths or case_files.runs():
         yield from case_files.rows_of(path)
 
 

@@ -1,7 +1,7 @@
 #!/usr/bin/env python3
 """Runs the cases of runs by a second interpreter, and tells what they have of each instruction.
 
-  bench/fuzzers/opcode_cases.py [FILE..]     these files of questions/runs, or all
+  bench/fuzzers/opcode_cases.py [FILE..]     these files of questions/runs, or all but those of a library
 
 Each answer that says how a run ends (its steps, its ending, what is printed) is compared with the interpreter's of
 second_machine.py; a row that differs is shown. Then comes a row for each instruction of the profile: in how many
@@ -10,7 +10,6 @@ exception, meets an operand of a wrong kind, too few operands, a full stack, a l
 there, and a constant that is none of its own or names nothing. `-` stands where there can be none, and HOLE where there
 could be a question and is none. It ends in 1 where an answer differs or there is a hole.
 """
-import glob
 import os
 import sys
 from collections import Counter
@@ -102,7 +101,7 @@ def profile():
 def main():
     paths = [os.path.join(case_files.RUNS, name) for name in sys.argv[1:]]
     counts, questions, others = Counter(), 0, 0
-    for path in paths or sorted(glob.glob(os.path.join(case_files.RUNS, "*.txt"))):
+    for path in paths or case_files.runs():
         for row in case_files.rows_of(path):
             machine = answered(row)
             if machine is None:
