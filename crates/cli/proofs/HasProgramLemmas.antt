@@ -51,7 +51,8 @@ use Rattle.program.specs.declared.signature.Signature.{Signature}
 use Rattle.program.specs.Fields.{statics_of}
 use Rattle.program.specs.Handlers.{IsCaught, IsHandler}
 use Rattle.program.specs.Programs.{AreClasses, HasOwnStrings, IsImplementation, IsLinkedClass, IsMethodCode, IsProgram}
-use Rattle.program.specs.Programs.{initializer_of, is_abstract_method, is_left_out, main_of, native_or_left_out, static_field}
+use Rattle.program.specs.Programs.{initializer_of, is_abstract_method, is_left_out, main_of}
+use Rattle.program.specs.Programs.{native_or_left_out, static_field}
 use Rattle.program.specs.References.{FieldOfConstant, FindsField, FindsMethod, MethodOfConstant}
 use Rattle.program.specs.References.{ResolvesMethodAt, is_interface_id, key_at, wants_interface}
 use Rattle.program.specs.RuntimePool.{IsMethodReference, IsRuntimeConstant, IsRuntimePool, descriptor_index_at}

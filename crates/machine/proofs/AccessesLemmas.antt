@@ -58,7 +58,8 @@ gives_on stopped old on new row other f (Ok k) same is = same ∙ is
 gives_on stopped old on new row other f (Err stop) same is = ap (unless_refused stop) same ∙ is
 
 -- one that needs a class whose initialization failed
-pub fails_at_class : {A : Type 0} (P : Tables) (stopped : Stop → A) (old new : Row → A) (c : ℕ) (usable : Bool) (row : Row)
+pub fails_at_class : {A : Type 0} (P : Tables) (stopped : Stop → A) (old new : Row → A) (c : ℕ) (usable : Bool)
+      (row : Row)
     (f : Frame) (r : Result Conclusion Stop) → ((next : Bool → Row) → old (UseClass c next) ≡ old (next usable))
     → usable ≡ false → Gives stopped old new (raises P NoClassDefFoundError) f r
     → Gives stopped old new (UseClass c (if_usable P row)) f r

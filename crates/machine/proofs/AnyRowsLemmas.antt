@@ -489,7 +489,8 @@ module _ (Is : Row → Type 0) (HasRoom : Frame → Type 0) (up : GoesUp Is HasR
         needing_any Is up.halted (top f.operands) _ (λ v is.
         named_any (object_printed P what v) (print_plain P what v line k f) (λ x. print_made P x line k f)
         (needed_any (printed_text P what v) _ (λ text. on_receiver (ended line text) v is))
-        (λ x. made_string_any P x _ (λ o. needed_any o _ (λ units. on_receiver (ended line (printed_units units)) v is))))
+        (λ x. made_string_any P x _ (λ o. needed_any o _ (λ units.
+        on_receiver (ended line (printed_units units)) v is))))
       where
         on_receiver : (text : List ℕ) (v : Value) → top f.operands ≡ Some v
             → Is (needing (top_as Reference (rest f.operands)) (print_on P text 2 k f))

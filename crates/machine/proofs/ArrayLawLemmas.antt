@@ -39,7 +39,8 @@ use Rattle.machine.specs.RowParts.{halts, needing, goes_on, push, raises}
 use Rattle.machine.specs.StoredKinds.{top_stored}
 use Rattle.machine.proofs.StoredKindsLemmas.{stored_kept}
 use Rattle.machine.specs.Linked.{program_of}
-use Rattle.machine.proofs.ObjectLawLemmas.{raised as raised_suits, slot_has, on_object_suits, ask_class_suits, push_on_suits}
+use Rattle.machine.proofs.ObjectLawLemmas.{raised as raised_suits, slot_has, on_object_suits, ask_class_suits}
+use Rattle.machine.proofs.ObjectLawLemmas.{push_on_suits}
 use Rattle.machine.proofs.TableLemmas.{needing_any, needing_such}
 
 filled_has : (Q : Value → Type 0) (n : ℕ) (v : Value) → Q v → AllByRecursion Q (replicate n v)

@@ -20,7 +20,8 @@ use Rattle.machine.specs.steps.ArrayAccesses.{EndsSo}
 use Rattle.machine.proofs.AccessesLemmas.{gives_at}
 
 -- an instruction that a trap ended
-pub ended_by_trap : {A : Type 0} (P : Tables) (stopped : Stop → A) (old new : Row → A) (row : Row) (f : Frame) (trap : Trap)
+pub ended_by_trap : {A : Type 0} (P : Tables) (stopped : Stop → A) (old new : Row → A) (row : Row) (f : Frame)
+      (trap : Trap)
     (abrupt : Abrupt) (r : Result Conclusion Stop) → abrupt ≡ Trapped trap → EndsSo P stopped old row abrupt
     → Gives stopped old new (local_row P (Err trap)) f r → Gives stopped old new row f r
 ended_by_trap P stopped old new row f trap abrupt r is ends gives =
@@ -39,6 +40,7 @@ trapped_row P traps.Fault go = refl
 trapped_row P (traps.Raise class) go = refl
 
 -- a new array of a size that there is not
-pub not_made : (P : Tables) (a : ArrayType) (zero : Value) (f : Frame) (count : ℤ) (trap : Trap) → top_int f.operands ≡ Some count
+pub not_made : (P : Tables) (a : ArrayType) (zero : Value) (f : Frame) (count : ℤ) (trap : Trap)
+      → top_int f.operands ≡ Some count
     → size_of count ≡ Err trap → make_array P a zero f ≡ local_row P (Err trap)
 not_made P a zero f count trap on_top is = rw (on_top, is) (trapped_row P trap _)

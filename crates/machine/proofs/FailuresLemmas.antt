@@ -20,7 +20,8 @@ module _ (P : Tables) (t : ℕ) (maker : Maker) (sh : SharedState) where
       → run_row t maker sh (failing P x) ≡ run_row t maker sh (raises P ExceptionInInitializerError)
   wrapped x class held apart =
       ap (λ (o : Option ClassId). run_row t maker sh (needing o (fails_by P x))) held
-      ∙ ap (λ (b : Bool). run_row t maker sh (cond b (Ends (Raise x class)) (raises P ExceptionInInitializerError))) apart
+      ∙ ap (λ (b : Bool). run_row t maker sh (cond b (Ends (Raise x class)) (raises P ExceptionInInitializerError)))
+      apart
 
   -- by a parent whose initialization failed
   pub by_parent : (cause : Option Name) (r : Result) → cause ≡ None

@@ -45,7 +45,8 @@ module _ {A : Type 0} (run : Row → A) where
       in
       rw named led
 
-  pub clone_asked : (P : Tables) (v : Value) (f : Frame) (x : Name) (o : Option ClassId) (a : ArrayType) → name_of v ≡ Some x
+  pub clone_asked : (P : Tables) (v : Value) (f : Frame) (x : Name) (o : Option ClassId) (a : ArrayType)
+      → name_of v ≡ Some x
       → ((next : Option ClassId → Row) → run (AskClass x next) ≡ run (next o)) → o ≡ Some (Array a)
       → run (clone_array P v f) ≡ run (copy_of x a f)
   clone_asked P v f x o a named asked is =

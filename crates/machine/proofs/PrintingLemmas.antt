@@ -17,8 +17,8 @@ use Rattle.machine.proofs.InstanceCallsLemmas.{not_printed}
 module _ (P : Tables) (k : InstanceCall) (f : Frame) (receiver : Value) where
   -- a print of a value, of which this is the text
   pub value_printed : (what : Printed) (line : Bool) (v : Value) (text all : List ℕ)
-      → top f.operands ≡ Some v → object_printed P what v ≡ None → printed_text P what v ≡ Some text → top_as Reference (rest f.operands) ≡ Some receiver
-      → all ≡ ended line text
+      → top f.operands ≡ Some v → object_printed P what v ≡ None → printed_text P what v ≡ Some text
+      → top_as Reference (rest f.operands) ≡ Some receiver → all ≡ ended line text
       → print_value P what line k f ≡ print_on P all 2 k f receiver
   value_printed what line v text all at none has second whole = rw (at, none, has, second, whole) refl
 

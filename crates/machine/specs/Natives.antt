@@ -72,7 +72,8 @@ abbrev pub class_name : Tables → Frame → Row
 class_name P f =
     needing (top_as Reference f.operands) (λ v.
     with_class P v (λ class.
-    Make (Array chars) (map char_of (class_units P class)) (λ x. push (value_of x) (with_operands f (rest f.operands)))))
+    Make (Array chars) (map char_of (class_units P class)) (λ x.
+    push (value_of x) (with_operands f (rest f.operands)))))
 
 -- the number of its class
 abbrev pub number_of_class : Tables → Frame → Row

@@ -35,7 +35,8 @@ fn make_exception(
     class: BuiltIn,
 ) -> Result<(Name, ClassId), AllocError>
     ensures row { IfOk result (λ r. (t : ℕ) (p : List Print)
-        → run_row t maker (shared_of shared.old p) (raises program.now class) ≡ Moved (Raise r.0 r.1) (shared_of shared.new p)) }
+        → run_row t maker (shared_of shared.old p) (raises program.now class)
+        ≡ Moved (Raise r.0 r.1) (shared_of shared.new p)) }
     ensures classes { shared.new.classes ≡ shared.old.classes }
     ensures err { OnErr result (SharesTheSame shared.old shared.new) }
 {

@@ -4,8 +4,8 @@ ghost use Rattle.std.specs.Prelude.{◌≡◌, ◌∷◌, [], List, IfOk, is_som
 ghost use Rattle.classfile.specs.Printing.{printed_units};
 ghost use Rattle.vm_state.specs.Output.{Print};
 ghost use Rattle.machine.specs.MadeStrings.{unit_of_int};
-ghost use Rattle.machine.specs.Printing.{object_printed, print_made, text_of_string, printed_text, ended, print_on, print_value};
-ghost use Rattle.machine.specs.Printing.{end_line};
+ghost use Rattle.machine.specs.Printing.{object_printed, print_made, text_of_string, printed_text, ended, print_on};
+ghost use Rattle.machine.specs.Printing.{print_value, end_line};
 ghost use Rattle.machine.specs.Accesses.{Gives, Keeps};
 
 use crate::call_operation::InstanceCall;

@@ -84,8 +84,8 @@ static_field f pool m = record {
 
 -- ---- methods
 
--- abstract; native or synchronized, which is left out but for five natives of the library; the flags of a class initialization method say nothing (JVMS
--- 4.6)
+-- abstract; native or synchronized, which is left out but for five natives of the library; the flags of a class
+-- initialization method say nothing (JVMS 4.6)
 abbrev pub is_abstract_method : ClassFile → Member → Bool
 is_abstract_method f m = not (is_initializer f m) && has_flag m.access_flags 1024
 

@@ -148,7 +148,8 @@ call_in P f (calls.Instance k) =
     called_in P scope f k (length kinds + 1) v (λ class a is. (class, is))))
 call_in P f (calls.Print what line k) =
     let scope = scope_of P (OnCall (calls.Print what line k)) in
-    let received : (text : List ℕ) → Suits P scope f (needing (top_as Reference (rest f.operands)) (print_on P text 2 k f)) =
+    let received : (text : List ℕ)
+      → Suits P scope f (needing (top_as Reference (rest f.operands)) (print_on P text 2 k f)) =
     λ text. need P scope (top_as Reference (rest f.operands)) (print_on P text 2 k f) (λ r.
     print_in P scope f text 2 k r refl (λ class a is. (class, is))) in
     need P scope (top f.operands) _ (λ v.

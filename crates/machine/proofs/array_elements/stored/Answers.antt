@@ -29,7 +29,8 @@ returns-in_err-check_store g c =
     let abrupt = c.in_err-check_store.field-0.0 in
     let same : c.from_residual-in_err-check_store.result ≡ Err abrupt = search rules in
     λ p. rw same (λ go. rw (value, (rw operands at c.in_ok-index.ensures.ok), (rw operands at c.in_ok-array.ensures.ok))
-    (ends_at c.args.program.now g.S.Store.stopped (g.S.Store.run c.args.by (g.S.Store.state c.args.store.now p)) _ _ abrupt
+    (ends_at c.args.program.now g.S.Store.stopped (g.S.Store.run c.args.by (g.S.Store.state c.args.store.now p)) _ _
+    abrupt
     (rw fits at (c.in_ok-element.ensures c.args.program.now p (assigned c.args.program.now v go)))
     (c.in_err-check_store.ensures p (go (record { element = c.in_ok-element.element; value = v })))))
 

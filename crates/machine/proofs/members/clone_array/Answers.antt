@@ -10,7 +10,8 @@ returns-in_default-clause-gives g c =
     (g.S.Store.run c.args.by (g.S.Store.state c.without_object.new.store p)) _ _ c.args.frame.now
     c.without_object.result
     (ap (g.S.Store.run c.args.by (g.S.Store.state c.args.store.now p))
-    (clone_nameless c.args.program.now c.args.receiver c.args.frame.now (sym c.name_of.ensures ∙ c.in_default.is)))
+    (clone_nameless c.args.program.now c.args.receiver
+    c.args.frame.now (sym c.name_of.ensures ∙ c.in_default.is)))
     (c.without_object.ensures.gives p c.args.frame.now)
 
 pub returns-in-Some-Array-clause-gives : goal.returns-in-Some-Array-clause-gives
@@ -18,7 +19,8 @@ returns-in-Some-Array-clause-gives g c =
     let is : c.in-Some-Array.field-0 ≡ Array c.in-Some-Array.array = c.in-Some-Array.field-0-is in
     λ p. gives_at g.S.Store.stopped (g.S.Store.run c.args.by (g.S.Store.state c.args.store.now p))
     (g.S.Store.run c.args.by (g.S.Store.state c.copy_array.new.store p)) _ _ c.copy_array.new.frame c.copy_array.result
-    (clone_asked (g.S.Store.run c.args.by (g.S.Store.state c.args.store.now p)) c.args.program.now c.args.receiver c.args.frame.now
+    (clone_asked (g.S.Store.run c.args.by (g.S.Store.state c.args.store.now p)) c.args.program.now c.args.receiver
+    c.args.frame.now
     c.in-Some.object c.in_ok-array.field-0 c.in-Some-Array.array (sym c.name_of.ensures ∙ c.in-Some.is)
     (c.in_ok-array.ensures p) (c.in-Some-Array.is ∙ ap Some is))
     (c.copy_array.ensures.gives p)

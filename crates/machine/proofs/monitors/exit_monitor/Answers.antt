@@ -22,7 +22,8 @@ returns-then-not-branch-clause-gives g c =
     (g.S.Store.run c.args.by (g.S.Store.state c.use_monitor.new.self p))
     (g.S.Store.run c.args.by (g.S.Store.state c.raise.new.store p)) _ _ c.args.frame.now c.raise.result
     (exit_refused (g.S.Store.run c.args.by (g.S.Store.state c.args.store.now p))
-    (g.S.Store.run c.args.by (g.S.Store.state c.use_monitor.new.self p)) c.args.program.now c.args.frame.now c.in-Ok.value
+    (g.S.Store.run c.args.by (g.S.Store.state c.use_monitor.new.self p)) c.args.program.now c.args.frame.now
+    c.in-Ok.value
     c.in-Some.object c.in_ok-use_monitor.field-0 (rw operands at c.in-Ok.ensures.ok) (sym c.name_of.ensures
     ∙ c.in-Some.is)
     (c.in_ok-use_monitor.ensures.leads p) c.if-not-branch.true)
