@@ -30,3 +30,4 @@ pub mod ZerosLemmas
 pub mod FirstFoundLemmas
 pub mod FramesLemmas
 pub mod ClassNumbersLemmas
+pub mod NativesLemmas
