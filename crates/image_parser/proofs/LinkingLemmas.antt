@@ -154,7 +154,13 @@ module _ (files : List ClassFile) (named : AreNamed files) where
       by_kind name class e among open' true true i o = inl (
         meant files f class,
         record {
-          name = name; named = e; of_name = class; among = among; extended = open'; object = λ h. o; is = refl;
+          name = name;
+          named = e;
+          of_name = class;
+          among = among;
+          extended = open';
+          object = λ h. o;
+          is = refl;
         },
       )
       by_kind name class e among open' false o i is = inl (

@@ -336,7 +336,7 @@ found_field c j e (ResolvesField.found {d = d} {k = k} search) =
     let class : d ≡ c = cc in
     let place : k ≡ j = cc in
     search_ends c j (rw (class, place) refl) search
-found_field c j e (ResolvesField.missing search no) = absurd cc
+found_field c j e (ResolvesField.missing search otherwise) = absurd cc
 found_field c j e (ResolvesField.substitute_out search is out) = absurd cc
 found_field c j e (ResolvesField.out h) = absurd cc
 found_field c j e (ResolvesField.no_out h) = absurd cc
