@@ -179,7 +179,7 @@ failing_for P Why c t x sh =
     (asked t (makers.Class c) Why x (λ o. needing o (fails_by P x)) (λ o.
     need t (makers.Class c) Why o (fails_by P x) (λ class is.
     either t (makers.Class c) Why (is_below P.family class (BuiltIn Error)) (Ends (Raise x class))
-    (raises ExceptionInInitializerError) (thrown t (makers.Class c) Why x class)
+    (raises P ExceptionInInitializerError) (thrown t (makers.Class c) Why x class)
     (raised t (makers.Class c) Why ExceptionInInitializerError)))).leads sh
 
 module _ (P : Tables) (is : IsProgram P) (entries : List ℕ) (mains : HaveMains P entries) (t : ℕ) (kind : FaultKind)
