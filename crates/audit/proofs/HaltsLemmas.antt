@@ -26,6 +26,7 @@ use Rattle.vm_state.specs.Statics.{usable}
 use Rattle.vm_state.specs.Values.{int_of, name_of, value_of}
 use Rattle.semantics.specs.Moves.{advanced, with_operands}
 use Rattle.semantics.specs.Rows.{Move, Next, Raise, Halt, Row, Ends, UseClass, ReadStatic, WriteStatic, AskClass}
+use Rattle.semantics.specs.Rows.{int_length}
 use Rattle.semantics.specs.Rows.{LookInto, Change, Make, UseMonitor, Part, Outcome}
 use Rattle.semantics.specs.Rows.{Result, Moved, Needs, Waits, Lock, Blocked, Answered, lock_monitor, on_usable, on_lock}
 use Rattle.semantics.specs.Rows.{part_at, run_row}
