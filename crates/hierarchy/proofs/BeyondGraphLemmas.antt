@@ -1,5 +1,5 @@
 -- The graph of steps up, as it is made, and what substitutes reach along it.
-use Rattle.std.proofs.Common.{◌≡◌, ◌↔◌, ℕ, zero, suc, ◌+◌, ◌<◌, ◌≤◌, ◌⊎◌, inl, inr, Bool, true, false, cond, eqb, IsTrue, List, []}
+use Rattle.std.proofs.Common.{◌≡◌, ◌↔◌, ℕ, zero, suc, ◌+◌, ◌<◌, ◌≤◌, inl, inr, Bool, true, false, cond, eqb, IsTrue, List, []}
 use Rattle.std.proofs.Common.{◌∷◌, ◌++◌, length, get_or, take, Option, Some, None, slice_get, option_to_list}
 use Rattle.std.proofs.Common.{refl, sym, ap, subst, ◌∙◌, arith, append-nil}
 use Rattle.std.specs.List.{All, Contains, flat_map}
@@ -15,7 +15,7 @@ use Rattle.built_in.specs.ClassNames.{all_built_in}
 use Rattle.built_in.specs.Subclasses.{number_of_built_in, superclasses_of_built_in}
 use Rattle.built_in.specs.declared.class_id.BuiltIn.{BuiltIn}
 use Rattle.built_in.specs.declared.class_id.BuiltIn.TheVariants as builtins
-use Rattle.loading.specs.Families.{Family, AreParentsWithin, interfaces_in, parents_in, substitute_in, superclass_if}
+use Rattle.loading.specs.Families.{Family, AreParentsWithin, interfaces_in, substitute_in}
 use Rattle.loading.specs.Families.{given_superclass, superclass_in, superclasses_in}
 use Rattle.loading.specs.declared.given.Superclass.{Superclass}
 use Rattle.loading.specs.declared.given.Superclass.TheVariants as super

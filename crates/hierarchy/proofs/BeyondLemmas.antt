@@ -1,7 +1,7 @@
 -- A class is below another by steps up where it is so by given parents, or by way of a substitute that it is directly
 -- below: of the built-in class at the end of its superclasses, or one that it is or that stands above it.
-use Rattle.std.proofs.Common.{◌≡◌, ◌↔◌, ℕ, ◌⊎◌, inl, inr, Bool, true, false, eqb, cond, ◌||◌, ◌&&◌, List, [], ◌∷◌, ◌++◌}
-use Rattle.std.proofs.Common.{Option, Some, None, zero, suc, ◌<◌, ◌≤◌, get_or, length, refl, sym, ap, subst, ◌∙◌, arith}
+use Rattle.std.proofs.Common.{◌≡◌, ◌↔◌, ℕ, ◌⊎◌, inl, inr, Bool, true, false, eqb, cond, ◌||◌, ◌&&◌, List, [], ◌∷◌}
+use Rattle.std.proofs.Common.{Option, Some, None, zero, suc, ◌<◌, get_or, length, refl, sym, ap, subst, ◌∙◌, arith}
 use Rattle.std.specs.List.{Contains, flat_map, list_any}
 use Rattle.std.proofs.lemmas.Bool.{cases_lt, eqb-true, eq-eqb}
 use Rattle.std.proofs.lemmas.Bool.Decides.{same_from_decides}
@@ -20,13 +20,12 @@ use Rattle.loading.specs.Families.{given_superclass, interfaces_in, is_interface
 use Rattle.loading.specs.Families.{superclasses_in}
 use Rattle.loading.proofs.LibraryLemmas.{any_found, small, stands_at}
 use Rattle.loading.proofs.SubstitutesLemmas.{all_substitutes}
-use Rattle.hierarchy.specs.Initialization.{AreSuperclasses, none, next, given_superclasses}
+use Rattle.hierarchy.specs.Initialization.{AreSuperclasses, none, next}
 use Rattle.hierarchy.specs.Subclasses.{is_above}
 use Rattle.hierarchy.specs.Subtypes.{built_in_above, built_in_above_if, built_in_of, end_of_chain, is_above_built_in}
 use Rattle.hierarchy.specs.Subtypes.{IsUp, is_reached, is_reached_from, substitutes_in, up_in}
 use Rattle.hierarchy.specs.steps.Beyond.{is_by_way_of, is_directly_below, is_end, is_under}
 use Rattle.hierarchy.specs.steps.Tops.{IsTop, direct, further as one_above}
-use Rattle.hierarchy.proofs.AboveLemmas.{ancestor_of_parent}
 use Rattle.hierarchy.proofs.InitializationLemmas.{superclasses_of}
 use Rattle.hierarchy.proofs.StepsUpLemmas.{before, from_flat_map, in_flat_map, none_in, one_of_substitutes}
 use Rattle.hierarchy.proofs.StepsUpLemmas.{substitute_of_one, up_further, up_tells}

@@ -10,7 +10,7 @@ use Rattle.std.proofs.lemmas.Map.Steps.{length-le_from_distinct_below}
 use Rattle.built_in.specs.declared.class_id.BuiltIn.{BuiltIn}
 use Rattle.loading.specs.Families.{Family, AreParentsWithin, parents_in, substitute_in}
 use Rattle.loading.proofs.SubstitutesLemmas.{substitute_within}
-use Rattle.graph.specs.Rows.{Rows, successors_of}
+use Rattle.graph.specs.Rows.{Rows}
 use Rattle.graph.specs.Reaches.{Reaches}
 use Rattle.hierarchy.specs.Subtypes.{IsUp, built_in_above, is_reached, reached_within, substitutes_in, up_in}
 use Rattle.hierarchy.specs.steps.Beyond.{IsGraphUp}

@@ -1,5 +1,5 @@
 -- `out` of the substitute of System.
-use Rattle.std.proofs.Common.{◌≡◌, ◌↔◌, ℕ, Bool, true, false, IsTrue, List, [], ◌∷◌, Option, Some, None, refl}
+use Rattle.std.proofs.Common.{◌≡◌, ◌↔◌, ℕ, Bool, true, false, IsTrue, [], ◌∷◌, Some, None, refl}
 use Rattle.std.specs.Bool.{then_some}
 use Rattle.built_in.specs.declared.class_id.BuiltIn.TheVariants as builtins
 use Rattle.built_in.specs.declared.class_id.ClassId.TheVariants as class

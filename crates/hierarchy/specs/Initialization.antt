@@ -1,7 +1,7 @@
 -- What is initialized before a class (JVMS 5.5, step 7; JLS 12.4.1).
-use Rattle.std.specs.Prelude.{◌≡◌, ℕ, zero, suc, Bool, true, false, not, ◌||◌, List, [], ◌∷◌, ◌++◌, ◌<◌, length}
+use Rattle.std.specs.Prelude.{◌≡◌, ℕ, zero, suc, Bool, true, false, List, [], ◌∷◌, ◌++◌, ◌<◌, length}
 use Rattle.std.specs.Prelude.{slice_index_or}
-use Rattle.std.specs.List.{list_any, filter, flat_map}
+use Rattle.std.specs.List.{filter, flat_map}
 use Rattle.classfile.specs.ClassFile.{declares_default}
 use Rattle.loading.specs.Families.{Family, file_in, passes, is_interface_in, interfaces_in, superclasses_in}
 use Rattle.hierarchy.specs.Search.{SuperinterfacesFirst, firsts}

@@ -1,10 +1,9 @@
 -- What is reached by steps up, and how it is found: by given parents, or by way of a substitute.
 use Rattle.std.specs.Prelude.{◌≡◌, ◌↔◌, ℕ, ◌==◌, Bool, true, false, ◌||◌, ◌&&◌, List, [], ◌++◌, length, Option}
 use Rattle.std.specs.Prelude.{Some, None, slice_get}
-use Rattle.std.specs.List.{Contains, list_any}
+use Rattle.std.specs.List.{Contains}
 use Rattle.graph.specs.Rows.{Rows, successors_of}
 use Rattle.graph.specs.Seen.{Seen}
-use Rattle.built_in.specs.ClassNames.{all_built_in}
 use Rattle.built_in.specs.declared.class_id.BuiltIn.{BuiltIn}
 use Rattle.built_in.specs.Subclasses.{number_of_built_in, is_same_built_in}
 use Rattle.loading.specs.declared.given.Superclass.{Superclass}

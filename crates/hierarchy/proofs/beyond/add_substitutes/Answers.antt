@@ -1,5 +1,4 @@
-use Rattle.std.proofs.Common.{List, ◌∙◌, option_to_list}
-use Rattle.graph.specs.Rows.{successors_of}
+use Rattle.std.proofs.Common.{◌∙◌, option_to_list}
 use Rattle.built_in.specs.declared.class_id.BuiltIn.{BuiltIn}
 use Rattle.loading.specs.Families.{substitute_in}
 use Rattle.hierarchy.proofs.BeyondGraphLemmas.{joined_more, joined_whole}

@@ -1,4 +1,4 @@
-use Rattle.std.proofs.Common.{◌≡◌, ◌≤◌, ◌∙◌, length, ap, subst, sym, arith}
+use Rattle.std.proofs.Common.{◌≡◌, length, ap, arith}
 use Rattle.hierarchy.proofs.BeyondGraphLemmas.{all_steps, steps_more}
 use Rattle.hierarchy.proofs.beyond.graph_up.Goals as goal
 

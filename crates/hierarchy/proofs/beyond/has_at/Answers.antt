@@ -1,4 +1,4 @@
-use Rattle.std.proofs.Common.{◌↔◌, ◌∙◌, Option, Some, None, false, IsTrue, sym, subst}
+use Rattle.std.proofs.Common.{◌↔◌, ◌∙◌, Option, false, IsTrue, sym, subst}
 use Rattle.std.specs.List.{Contains}
 use Rattle.graph.specs.Seen.{Seen}
 use Rattle.hierarchy.specs.steps.Beyond.{items_of}

@@ -1,4 +1,4 @@
-use Rattle.std.proofs.Common.{◌<◌, ◌∙◌, length, ap, arith}
+use Rattle.std.proofs.Common.{◌<◌, ◌∙◌, length, arith}
 use Rattle.hierarchy.proofs.TextNumbersLemmas.{found_at, held_there}
 use Rattle.hierarchy.proofs.texts.numbers_of.Goals as goal
 

@@ -1,4 +1,4 @@
-use Rattle.std.proofs.Common.{◌≡◌, ◌∙◌, true, false, sym}
+use Rattle.std.proofs.Common.{◌∙◌, sym}
 use Rattle.hierarchy.proofs.hierarchy.Hierarchy.is_out_of.Goals as goal
 
 pub returns-then-not-is_system : goal.returns-then-not-is_system

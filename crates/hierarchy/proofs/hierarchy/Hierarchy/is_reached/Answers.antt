@@ -1,4 +1,4 @@
-use Rattle.std.proofs.Common.{◌≡◌, ◌||◌, ◌∙◌, Bool, sym, ap, subst}
+use Rattle.std.proofs.Common.{◌||◌, ◌∙◌, Bool, sym, ap, subst}
 use Rattle.std.specs.List.{list_any}
 use Rattle.built_in.specs.ClassNames.{all_built_in}
 use Rattle.loading.specs.Families.{Family, IsFamily, AreParentsWithin}

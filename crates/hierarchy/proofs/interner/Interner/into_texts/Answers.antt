@@ -1,4 +1,4 @@
-use Rattle.std.proofs.Common.{◌≡◌, ◌∙◌, List, Vec, Global, ℕ, map, map-id, sym, ap}
+use Rattle.std.proofs.Common.{◌∙◌, List, Vec, Global, ℕ, map-id, sym, ap}
 use Rattle.std.proofs.lemmas.Iterator.{items_from_drains}
 use Rattle.std.proofs.lemmas.Iterator.Consumers.{YieldsList-from_rest}
 use Rattle.hierarchy.specs.steps.HeldTexts.{texts_of}

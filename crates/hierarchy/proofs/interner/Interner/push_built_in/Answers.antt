@@ -1,4 +1,4 @@
-use Rattle.std.proofs.Common.{◌≡◌, ◌∙◌, ◌++◌, ◌∷◌, [], Some, slice_get, take, sym, ap, subst}
+use Rattle.std.proofs.Common.{◌≡◌, ◌∙◌, ◌++◌, ◌∷◌, [], take, sym, ap, subst}
 use Rattle.std.specs.List.{Contains}
 use Rattle.hierarchy.specs.steps.BuiltInTexts.{built_in_texts}
 use Rattle.hierarchy.proofs.BuiltInTextsLemmas.{built_in_distinct, spelled_at}
